@@ -1,0 +1,165 @@
+-- What the numbers say of a call, and the deliveries and readings that change nothing.
+use mathlib.Core.Path.{_≡_, refl, sym, ap, _∙_, subst}
+use mathlib.Core.Logic.{inl, inr}
+use Prim.Native.Nat.{ℕ, _+_, _-_, _*_, _<_, _≤_}
+use mathlib.Core.Bool.{Bool, true, false, cond, not, _||_, _&&_, or-false}
+use mathlib.Core.List.{List, [], _∷_}
+use mathlib.Core.Option.{Option, none, some}
+use native.Mathlib.Omega.{arith}
+use lib.Dec.{ltb, leb, eqb}
+use lib.ListN.{length}
+use borrow.Author.Tests.{ltb-true, le-ltb, leb-true, eqb-true, eqb-false, eq-eqb, ne-eqb, not-true, not-false}
+use Rattle.rules.specs.declared.Event.{Event}
+use Rattle.rules.specs.declared.Entry.{Entry}
+use Rattle.rules.specs.declared.Schedule.{Schedule}
+use Rattle.rules.specs.Lists.{each, In, Pairwise}
+use Rattle.rules.specs.Records.{State, idOf, mostEvents, lastClock, programAt, view, pad}
+use Rattle.rules.specs.Moments.{advance, passed}
+use Rattle.rules.specs.Bytes.{bytes, flat}
+use Rattle.rules.specs.Sound.{malformed, sameEvent, sound}
+use Rattle.rules.specs.Refusals.{Check, firstOf, find, isNone, differs, late, programChecks, eventChecks, cancelChecks, clockChecks, askChecks, listChecks}
+use Rattle.rules.specs.Calls.{Call, addProgram, deliver, cancel, setClock, ask, list, nothing, code, count, entryId, does, checks, refusal, accepts, accepted, refused, lentBytes, lentList, call}
+use Rattle.rules.specs.Clauses.{CallClauses}
+use Rattle.rules.proofs.Tests.{both, each-true, first-not}
+use Rattle.rules.proofs.SoundState.{Sound, ById, same-event, view-pad, sound-pad, sound-view, pad-view, rules}
+
+unchanged : (s : Schedule) (c : Call) → (call s c .number ≡ 0 → ⊥) → (call s c .state ≡ s) × (call s c .bytes ≡ lentBytes c) × (call s c .records ≡ lentList c)
+unfolding call
+unchanged s c f = go (accepts s c) f
+  where
+    go : (b : Bool) → (cond b (accepted (does (view s) c)) (refused s c) .number ≡ 0 → ⊥)
+        → (cond b (accepted (does (view s) c)) (refused s c) .state ≡ s) × (cond b (accepted (does (view s) c)) (refused s c) .bytes ≡ lentBytes c)
+        × (cond b (accepted (does (view s) c)) (refused s c) .records ≡ lentList c)
+    go true f = absurd (f refl)
+    go false f = (refl, refl, refl)
+
+-- the number is the refusal
+number-is : (s : Schedule) (c : Call) → call s c .number ≡ refusal s c
+unfolding call
+number-is s c = go (accepts s c) refl
+  where
+    go : (b : Bool) → accepts s c ≡ b → cond b (accepted (does (view s) c)) (refused s c) .number ≡ refusal s c
+    go true e = sym (eqb-true (refusal s c) 0 e)
+    go false e = refl
+
+broken : (s : Schedule) (c : Call) → sound s ≡ false → call s c .number ≡ 2
+unfolding refusal
+broken s c e = number-is s c ∙ ap (λ b. firstOf (record { number = 2; applies = not b } ∷ checks (view s) c)) e
+
+-- the number of a call on a sound schedule is that of its own checks
+own : (s : Schedule) → sound s ≡ true → (c : Call) → call s c .number ≡ firstOf (checks (view s) c)
+unfolding refusal
+own s e c = number-is s c ∙ ap (λ b. firstOf (record { number = 2; applies = not b } ∷ checks (view s) c)) e
+
+-- and so on the schedule by value of a sound state
+pub own-pad : (s : State) → Sound s → (c : Call) → call (pad s) c .number ≡ firstOf (checks s c)
+own-pad s v c = own (pad s) (sound-pad s v) c ∙ ap (λ s. firstOf (checks s c)) (view-pad s)
+
+-- 2 is not among the numbers of a call's own checks
+not-given : (cs : List Check) → each (λ c. not (eqb (c .number) 2)) cs ≡ true → firstOf cs ≡ 2 → ⊥
+not-given [] e z = eqb-false 0 2 refl z
+not-given (c ∷ cs) e z = let r = each-true (not (eqb (c .number) 2)) _ e in go (c .applies) (not-true (eqb (c .number) 2) (r .0)) (not-given cs (r .1)) z
+  where
+    go : (b : Bool) → eqb (c .number) 2 ≡ false → (firstOf cs ≡ 2 → ⊥) → cond b (c .number) (firstOf cs) ≡ 2 → ⊥
+    go true f ih z = eqb-false (c .number) 2 f z
+    go false f ih z = ih z
+
+pub not-two : (s : State) (c : Call) → firstOf (checks s c) ≡ 2 → ⊥
+unfolding checks programChecks eventChecks cancelChecks clockChecks askChecks listChecks
+not-two s (addProgram n p d) e = not-given (programChecks s n p) refl e
+not-two s (deliver v) e = not-given (eventChecks s v (find (idOf v) (s .entries))) refl e
+not-two s (cancel i) e = not-given (cancelChecks (find i (s .entries))) refl e
+not-two s (setClock t b) e = not-given (clockChecks (s .clock) t (length (passed s t .rows)) (length b)) refl e
+not-two s (ask k) e = not-given (askChecks k) refl e
+not-two s (list r) e = not-given (listChecks (length (s .entries)) (length r)) refl e
+
+-- an accepted call on a sound schedule
+done : (s : Schedule) → sound s ≡ true → (c : Call) → firstOf (checks (view s) c) ≡ 0 → call s c ≡ accepted (does (view s) c)
+unfolding call refusal
+done s e c z = rw (e, z)
+
+-- a held event is found under its id
+found : (hs : List Entry) → Pairwise ById hs → (h : Entry) → In h hs → find (entryId h) hs ≡ some h
+unfolding find
+found (x ∷ xs) p h (inl q) = rw (q, eq-eqb (entryId x) (entryId x) refl)
+found (x ∷ xs) p h (inr m) = rw (ne-eqb (entryId x) (entryId h) (λ e. let l = p .0 h m in omega arith)) (found xs (p .1) h m)
+
+eqb-same : (n : ℕ) → eqb n n ≡ true
+eqb-same n = eq-eqb n n refl
+
+pub event-same : (e : Event) → sameEvent e e ≡ true
+unfolding sameEvent
+event-same e = simp eqb-same
+
+module _ (s : Schedule) (e : sound s ≡ true) (h : Entry) (m : In h (view s .entries)) where
+  held : find (entryId h) (view s .entries) ≡ some h
+  held = found (view s .entries) (sound-view s e .ids) h m
+
+  again : call s (deliver (h .event)) ≡ record { number = 0; value = code 0; state = s; bytes = []; records = [] }
+  unfolding checks eventChecks does
+  again =
+      let q = sound-view s e .entries h m in
+      done s e (deliver (h .event)) (rw (held, le-ltb 7 (h .event .program) (q .numbered), q .added, q .well, event-same (h .event)))
+      ∙ rw held (ap (λ z. record { number = 0; value = code 0; state = z; bytes = []; records = [] }) (pad-view s e))
+
+  redrawn : (d : Event) → idOf (h .event) ≡ idOf d → (h .event ≡ d → ⊥) → call s (deliver d) .number ≡ 0 → ⊥
+  unfolding checks eventChecks
+  redrawn d i f z =
+      let old : find (idOf d) (view s .entries) ≡ some h = subst (λ k. find k (view s .entries) ≡ some h) i held in
+      let ok : eqb (firstOf (eventChecks (view s) d (some h))) 0 ≡ true = eq-eqb _ 0 (rw old at (sym (own s e (deliver d)) ∙ z)) in
+      let r3 = first-not 3 (ltb 7 (d .program)) _ refl ok in
+      let r6 = first-not 6 (not (programAt (s .programs) (d .program) .added)) _ refl (r3 .1) in
+      let r7 = first-not 7 (malformed d) _ refl (r6 .1) in
+      let r8 = first-not 8 (not (sameEvent (h .event) d)) _ refl (r7 .1) in
+      f (same-event (h .event) d (not-false (sameEvent (h .event) d) (r8 .0)))
+
+-- the last number is given if its test holds
+given : (k : ℕ) (b : Bool) → eqb 0 k ≡ false → cond b k 0 ≡ k → b ≡ true
+given k true f e = refl
+given k false f e = absurd (eqb-false 0 k f e)
+
+-- a test that is not of number k is passed over
+passed-over : (n k : ℕ) (b : Bool) (r : ℕ) → eqb n k ≡ false → cond b n r ≡ k → r ≡ k
+passed-over n k true r f e = absurd (eqb-false n k f e)
+passed-over n k false r f e = e
+
+given-ten : (s : State) (d : Event) (o : Option Entry) → firstOf (eventChecks s d o) ≡ 10 → leb mostEvents (length (s .entries)) ≡ true
+unfolding eventChecks
+given-ten s d o q =
+    let r6 = passed-over 3 10 (ltb 7 (d .program)) _ refl q in
+    let r7 = passed-over 6 10 (not (programAt (s .programs) (d .program) .added)) _ refl r6 in
+    let r8 = passed-over 7 10 (malformed d) _ refl r7 in
+    let r9 = passed-over 8 10 (differs o d) _ refl r8 in
+    let r10 = passed-over 9 10 (isNone o && late (s .clock) d) _ refl r9 in
+    each-true (isNone o) _ (given 10 (isNone o && leb mostEvents (length (s .entries))) refl r10) .1
+
+full : (s : Schedule) (d : Event) → sound s ≡ true → call s (deliver d) .number ≡ 10 → length (view s .entries) ≡ 48
+unfolding checks
+full s d e z =
+    let ten = given-ten (view s) d (find (idOf d) (view s .entries)) (sym (own s e (deliver d)) ∙ z) in
+    omega (arith, leb-true mostEvents (length (view s .entries)) ten, sound-view s e .room)
+
+too-short : (s : Schedule) (t : ℕ) (b : List ℕ) → sound s ≡ true → call s (setClock t b) .number ≡ 13 → length b < 17 * length (passed (view s) t .rows)
+unfolding checks clockChecks
+too-short s t b e z =
+    let q = passed-over 12 13 (ltb t (s .clock) || ltb lastClock t) _ refl (sym (own s e (setClock t b)) ∙ z) in
+    ltb-true (length b) (17 * length (passed (view s) t .rows)) (given 13 (ltb (length b) (17 * length (passed (view s) t .rows))) refl q)
+
+same-reading : (s : Schedule) (b : List ℕ) → sound s ≡ true → call s (setClock (s .clock) b) ≡ record { number = 0; value = count 0; state = s; bytes = b; records = [] }
+unfolding checks clockChecks does advance flat
+same-reading s b e =
+    let z : s .clock - s .clock ≡ 0 = omega arith in
+    done s e (setClock (s .clock) b)
+    (rw (le-ltb (s .clock) (s .clock) (omega arith), le-ltb lastClock (s .clock) (rules s e .clock), z, le-ltb (length b) (17 * length (advance 0 (view s) .rows)) (omega arith)))
+    ∙ rw z (ap (λ y. record { number = 0; value = count 0; state = y; bytes = b; records = [] }) (pad-view s e))
+
+pub call-clauses : CallClauses
+call-clauses = record {
+  unchanged = unchanged;
+  broken = broken;
+  again = λ s h e m. again s e h m;
+  redrawn = λ s h d e m. redrawn s e h m d;
+  full = full;
+  too-short = too-short;
+  same-reading = same-reading;
+}

@@ -1,0 +1,114 @@
+-- Events and entries, and their bytes, are inverse: each field is a number or a mark of its own width.
+use mathlib.Core.Path.{_≡_, refl}
+use Prim.Native.Nat.{ℕ, zero, suc, _+_, _*_, _^_, _<_, _≤_}
+use mathlib.Core.Bool.{Bool, true, false, cond}
+use mathlib.Core.List.{List, _++_, append-assoc}
+use native.Mathlib.Omega.{arith}
+use lib.Dec.{eqb}
+use lib.ListN.{length, drop}
+use Rattle.rules.specs.declared.Event.{Event}
+use Rattle.rules.specs.declared.Entry.{Entry}
+use Rattle.rules.specs.Records.{idOf}
+use Rattle.rules.specs.Bytes.{big, read, eventAt, eventBytes, entryAt, entryBytes, flag}
+use Rattle.rules.proofs.Numbers.{Bytes, read-big, read-drop, piece, Inverse}
+
+-- each field fits its width
+pub record FitsEvent (e : Event) : Type 0 where
+  pub id : idOf e < 256 ^ 8
+  pub program : e .program < 256 ^ 1
+  pub controls : e .controls < 256 ^ 4
+  pub created : e .created < 256 ^ 4
+  pub start : e .start < 256 ^ 4
+  pub duration : e .duration < 256 ^ 4
+  pub «randomize_start» : e .«randomize_start» < 256 ^ 2
+  pub «randomize_duration» : e .«randomize_duration» < 256 ^ 2
+  pub «start_draw» : e .«start_draw» < 256 ^ 2
+  pub «duration_draw» : e .«duration_draw» < 256 ^ 2
+
+pub record FitsEntry (h : Entry) : Type 0 where
+  pub event : FitsEvent (h .event)
+  pub begins : h .begins < 256 ^ 8
+  pub held : h .held < 256 ^ 4
+
+pub entry-size : (h : Entry) → length (entryBytes h) ≡ 46
+unfolding entryBytes eventBytes big
+entry-size h = refl
+
+-- an event's bytes are that event, whatever follows
+pub event-of-bytes : (e : Event) → FitsEvent e → (r : List ℕ) → eventAt 0 (eventBytes e ++ r) ≡ e
+unfolding eventAt eventBytes read big
+event-of-bytes e f r =
+    rw (
+      read-big 8 (idOf e) (f .id),
+      read-big 1 (e .program) (f .program),
+      read-big 4 (e .controls) (f .controls),
+      read-big 4 (e .created) (f .created),
+      read-big 4 (e .start) (f .start),
+      read-big 4 (e .duration) (f .duration),
+      read-big 2 (e .«randomize_start») (f .«randomize_start»),
+      read-big 2 (e .«randomize_duration») (f .«randomize_duration»),
+      read-big 2 (e .«start_draw») (f .«start_draw»),
+      read-big 2 (e .«duration_draw») (f .«duration_draw»),
+    )
+
+-- a mark's byte is that mark, and is 0 or 1
+pub flag-read : (b : Bool) → eqb (0 * 256 + cond b 1 0) 1 ≡ b
+flag-read true = refl
+flag-read false = refl
+
+pub flag-small : (b : Bool) → 0 * 256 + cond b 1 0 ≤ 1
+flag-small true = omega arith
+flag-small false = omega arith
+
+-- an entry's bytes are that entry, whatever follows
+pub entry-of-bytes : (h : Entry) → FitsEntry h → (r : List ℕ) → entryAt 0 (entryBytes h ++ r) ≡ h
+unfolding entryAt entryBytes eventBytes read big
+entry-of-bytes h f r =
+    let event = event-of-bytes (h .event) (f .event) (big 8 (h .begins) ++ (big 4 (h .held) ++ (flag (h .cancelled) ++ r))) in
+    rw (event, read-big 8 (h .begins) (f .begins), read-big 4 (h .held) (f .held), flag-read (h .cancelled))
+
+-- an event, and an entry, further on
+pub event-drop : (at : ℕ) (l : List ℕ) → eventAt 0 (drop at l) ≡ eventAt at l
+unfolding eventAt
+event-drop at l = let z : at + 0 ≡ at = omega arith in simp (read-drop, z)
+
+pub entry-drop : (at : ℕ) (l : List ℕ) → entryAt 0 (drop at l) ≡ entryAt at l
+unfolding entryAt
+entry-drop at l = simp (event-drop, read-drop)
+
+-- a byte that is 0 or 1 is that of its mark
+pub flag-byte : (x : ℕ) → x ≤ 1 → flag (eqb x 1) ≡ big 1 x
+unfolding big
+flag-byte zero h = refl
+flag-byte (suc zero) h = refl
+flag-byte (suc (suc x)) h = absurd (omega arith)
+
+module _ (l : List ℕ) (b : Bytes l) where
+  -- bytes are those of the event that they are
+  pub event-piece : 33 ≤ length l → eventBytes (eventAt 0 l) ++ drop 33 l ≡ l
+  unfolding eventAt eventBytes
+  event-piece h =
+      simp append-assoc
+      (rw (
+        piece l b 2 31 (omega arith),
+        piece l b 2 29 (omega arith),
+        piece l b 2 27 (omega arith),
+        piece l b 2 25 (omega arith),
+        piece l b 4 21 (omega arith),
+        piece l b 4 17 (omega arith),
+        piece l b 4 13 (omega arith),
+        piece l b 4 9 (omega arith),
+        piece l b 1 8 (omega arith),
+        piece l b 8 0 (omega arith),
+      ))
+
+  -- and of the entry, if the mark is 0 or 1
+  pub entry-piece : 46 ≤ length l → read 1 45 l ≤ 1 → entryBytes (entryAt 0 l) ++ drop 46 l ≡ l
+  unfolding entryAt entryBytes
+  entry-piece h m =
+      simp (append-assoc, flag-byte (read 1 45 l) m)
+      (rw (piece l b 1 45 (omega arith), piece l b 4 41 (omega arith), piece l b 8 33 (omega arith), event-piece (omega arith)))
+
+pub entry-inverse : Inverse FitsEntry entryAt entryBytes 46 45
+unfolding entryBytes eventBytes read big
+entry-inverse = record { size = entry-size; marks = λ h r. flag-small (h .cancelled); reads = entry-of-bytes; puts = entry-piece; moves = entry-drop }

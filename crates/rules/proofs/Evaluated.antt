@@ -1,0 +1,53 @@
+-- T1 to T12, the edges of the numbers and the worked example, by evaluation of the run that passes over quiet moments.
+use mathlib.Core.Path.{_≡_, refl, sym, ap, ap₂, _∙_, fun-ext}
+use Prim.Native.Nat.{ℕ}
+use mathlib.Core.Bool.{Bool, true, false, _&&_}
+use mathlib.Core.List.{List, [], _∷_}
+use lib.Dec.{eqb}
+use borrow.Author.Tests.{eqb-true}
+use Rattle.rules.specs.Records.{usable, has, cut, join, fresh, pad}
+use Rattle.rules.specs.Period.{drawnStart, effectiveEnd, effectiveStart}
+use Rattle.rules.specs.Holding.{key, better, claim, taken, heldAt, holdingAt}
+use Rattle.rules.specs.Rows.{codeAt, rowsWith, rowsFrom, rowsAt}
+use Rattle.rules.specs.Moments.{entriesFrom, second, advance}
+use Rattle.rules.specs.Bytes.{big, read, flat, rowBytes, eventAt}
+use Rattle.rules.specs.Sound.{outOfRange, malformed, sameEvent}
+use Rattle.rules.specs.Refusals.{find, late, programChecks, eventChecks, cancelChecks, clockChecks, askChecks, listChecks}
+use Rattle.rules.specs.Calls.{bestDefault, holderIn, answerFor, does, checks}
+use Rattle.rules.specs.Frames.{digit, paired, unhex, isFrame, frameOf, lineOf}
+use Rattle.rules.specs.Printed.{linesOf, decimal, rowsText, output}
+use Rattle.rules.specs.Marks.{same, replies, caseHolds, allHold, edgesHold}
+use Rattle.rules.specs.Table.{table}
+use Rattle.rules.specs.Edges.{edges}
+use Rattle.rules.specs.Example.{exampleInput, exampleOutput}
+use Rattle.rules.proofs.Tests.{each-true, both}
+use Rattle.rules.proofs.SoundKept.{sound-fresh}
+use Rattle.rules.proofs.Jump.{jumps, nextMoment, idleFor}
+use Rattle.rules.proofs.Quick.{quickChecks, quickDoes, quickCall, quickReplies, quick-replies, quickTellFrame, quickTellAll, quick-tell}
+
+table-evaluates : allHold (quickReplies fresh) table ≡ true
+unfolding allHold caseHolds table quickReplies quickCall quickChecks quickDoes jumps nextMoment idleFor advance second entriesFrom rowsAt rowsFrom rowsWith codeAt holdingAt heldAt taken claim better key drawnStart effectiveEnd effectiveStart usable has cut join big flat rowBytes outOfRange malformed sameEvent find late programChecks eventChecks cancelChecks clockChecks askChecks listChecks bestDefault holderIn answerFor does checks
+table-evaluates = refl
+
+pub bench-marks : allHold (replies (pad fresh)) table ≡ true
+bench-marks = ap (λ see. allHold see table) (sym (fun-ext (quick-replies fresh sound-fresh))) ∙ table-evaluates
+
+edges-evaluate : edgesHold (quickReplies fresh) edges ≡ true
+unfolding edgesHold edges quickReplies quickCall quickChecks quickDoes jumps nextMoment idleFor advance second entriesFrom rowsAt rowsFrom rowsWith codeAt holdingAt heldAt taken claim better key drawnStart effectiveEnd effectiveStart usable has cut join big flat rowBytes outOfRange malformed sameEvent find late programChecks eventChecks cancelChecks clockChecks askChecks listChecks bestDefault holderIn answerFor does checks
+edges-evaluate = refl
+
+pub edges-hold : edgesHold (replies (pad fresh)) edges ≡ true
+edges-hold = ap (λ see. edgesHold see edges) (sym (fun-ext (quick-replies fresh sound-fresh))) ∙ edges-evaluate
+
+example-evaluates : same (quickTellAll fresh (linesOf exampleInput)) exampleOutput ≡ true
+unfolding linesOf decimal rowsText digit paired unhex isFrame frameOf lineOf read eventAt exampleInput exampleOutput quickTellAll quickTellFrame quickCall quickChecks quickDoes jumps nextMoment idleFor advance second entriesFrom rowsAt rowsFrom rowsWith codeAt holdingAt heldAt taken claim better key drawnStart effectiveEnd effectiveStart usable has cut join big flat rowBytes outOfRange malformed sameEvent find late programChecks eventChecks cancelChecks clockChecks askChecks listChecks bestDefault holderIn answerFor does checks
+example-evaluates = refl
+
+same-lists : (xs ys : List ℕ) → same xs ys ≡ true → xs ≡ ys
+same-lists [] [] e = refl
+same-lists [] (y ∷ ys) e = both false e refl
+same-lists (x ∷ xs) [] e = both false e refl
+same-lists (x ∷ xs) (y ∷ ys) e = let r = each-true (eqb x y) (same xs ys) e in ap₂ _∷_ (eqb-true x y (r .0)) (same-lists xs ys (r .1))
+
+pub worked-example : output exampleInput ≡ exampleOutput
+worked-example = sym (quick-tell fresh sound-fresh (linesOf exampleInput)) ∙ same-lists (quickTellAll fresh (linesOf exampleInput)) exampleOutput example-evaluates

@@ -1,0 +1,111 @@
+-- A schedule and its image are inverse: the clock, the count, the programs and the entries stand one after the other, each of its own length.
+use mathlib.Core.Path.{_≡_, refl, sym, ap, _∙_}
+use Prim.Native.Nat.{ℕ, _+_, _^_, _<_, _≤_}
+use mathlib.Core.Bool.{true, and-eq-true-iff}
+use mathlib.Core.List.{List, [], _++_, append-assoc, append-nil}
+use native.Mathlib.Omega.{arith}
+use borrow.Author.Tests.{eqb-true, eq-eqb, leb-true}
+use lib.Dec.{eqb, leb}
+use lib.ListN.{length, drop, length-append, drop-of-length-le}
+use lib.Seq.{drop-drop, drop-at}
+use Rattle.rules.specs.declared.Program.{Program}
+use Rattle.rules.specs.declared.Schedule.{Schedule}
+use Rattle.rules.specs.Lists.{All}
+use Rattle.rules.specs.Records.{lastClock, mostEvents}
+use Rattle.rules.specs.Bytes.{big, read, flat, many, entryBytes, entryAt}
+use Rattle.rules.specs.Image.{programBytes, programFrom, image, loaded, marked, formed}
+use Rattle.rules.specs.Sound.{whole, withinLimits}
+use Rattle.rules.proofs.Numbers.{Bytes, read-big, read-drop, piece, flat-length, Inverse, many-of-flat, marked-of-flat, flat-of-many}
+use Rattle.rules.proofs.Entries.{FitsEntry, flag-read, flag-small, flag-byte, entry-inverse}
+
+pub record FitsProgram (p : Program) : Type 0 where
+  pub primacy : p .primacy < 256 ^ 1
+  pub defaults : p .defaults < 256 ^ 4
+
+pub program-size : (p : Program) → length (programBytes p) ≡ 6
+unfolding programBytes big
+program-size p = refl
+
+pub program-of-bytes : (p : Program) → FitsProgram p → (r : List ℕ) → programFrom 0 (programBytes p ++ r) ≡ p
+unfolding programFrom programBytes read big
+program-of-bytes p f r = rw (flag-read (p .added), read-big 1 (p .primacy) (f .primacy), read-big 4 (p .defaults) (f .defaults))
+
+pub program-drop : (at : ℕ) (l : List ℕ) → programFrom 0 (drop at l) ≡ programFrom at l
+unfolding programFrom
+program-drop at l = let z : at + 0 ≡ at = omega arith in simp (read-drop, z)
+
+pub program-piece : (l : List ℕ) → Bytes l → 6 ≤ length l → read 1 0 l ≤ 1 → programBytes (programFrom 0 l) ++ drop 6 l ≡ l
+unfolding programFrom programBytes
+program-piece l b h m =
+    simp append-assoc
+    (rw (piece l b 4 2 (omega arith), piece l b 1 1 (omega arith))
+    (ap (λ (x : List ℕ). x ++ drop 1 l) (flag-byte (read 1 0 l) m) ∙ piece l b 1 0 (omega arith)))
+
+pub program-inverse : Inverse FitsProgram programFrom programBytes 6 0
+unfolding programBytes read
+program-inverse =
+    record { size = program-size; marks = λ p r. flag-small (p .added); reads = program-of-bytes; puts = program-piece; moves = program-drop }
+
+-- each field of each element fits its width
+pub record FitsSchedule (s : Schedule) : Type 0 where
+  pub programs : All FitsProgram (s .programs)
+  pub entries : All FitsEntry (s .entries)
+
+module _ (s : Schedule) (w : whole s ≡ true) where
+  lengths : (length (s .programs) ≡ 8) × (length (s .entries) ≡ 48)
+  unfolding whole
+  lengths =
+      let t = and-eq-true-iff (eqb (length (s .programs)) 8) (eqb (length (s .entries)) 48) .0 w in
+      (eqb-true (length (s .programs)) 8 (t .0), eqb-true (length (s .entries)) 48 (t .1))
+
+  programs-length : length (flat programBytes (s .programs)) ≡ 48
+  programs-length = omega (arith, lengths .0, flat-length programBytes 6 program-size (s .programs))
+
+  pub image-length : length (image s) ≡ 2265
+  unfolding image big
+  image-length =
+      let n = flat-length entryBytes 46 (entry-inverse .size) (s .entries) in
+      simp length-append (omega (arith, programs-length, lengths .1, n))
+
+  -- the programs start at byte 9, the entries at byte 57
+  at-programs : drop 9 (image s) ≡ flat programBytes (s .programs) ++ flat entryBytes (s .entries)
+  unfolding image big
+  at-programs = refl
+
+  at-entries : drop 57 (image s) ≡ flat entryBytes (s .entries) ++ []
+  at-entries =
+      sym (drop-drop 48 9 (image s)) ∙ ap (drop 48) at-programs
+      ∙ drop-at (flat programBytes (s .programs)) (flat entryBytes (s .entries)) 48 programs-length ∙ sym (append-nil (flat entryBytes (s .entries)))
+
+  pub formed-image : formed (image s) ≡ true
+  unfolding formed
+  formed-image =
+      let l = image s in
+      let programs : marked 6 8 9 l ≡ true = rw (lengths .0) at (marked-of-flat program-inverse (s .programs) _ 9 l at-programs) in
+      let entries : marked 46 48 102 l ≡ true = rw (lengths .1) at (marked-of-flat entry-inverse (s .entries) [] 57 l at-entries) in
+      rw (eq-eqb (length l) 2265 image-length, programs, entries)
+
+  -- a schedule is read again from its image
+  pub loaded-image : withinLimits s ≡ true → FitsSchedule s → loaded (image s) ≡ s
+  unfolding loaded image read big withinLimits
+  loaded-image n f =
+      let t = and-eq-true-iff (leb (s .clock) lastClock) (leb (s .count) mostEvents) .0 n in
+      let clock : s .clock < 256 ^ 8 = omega (arith, leb-true (s .clock) lastClock (t .0)) in
+      let count : s .count < 256 ^ 1 = omega (arith, leb-true (s .count) mostEvents (t .1)) in
+      let ps = many-of-flat program-inverse (s .programs) (f .programs) _ 9 (image s) at-programs in
+      let es = many-of-flat entry-inverse (s .entries) (f .entries) [] 57 (image s) at-entries in
+      let programs : many programFrom 6 8 9 (image s) ≡ s .programs = rw (lengths .0) at ps in
+      let entries : many entryAt 46 48 57 (image s) ≡ s .entries = rw (lengths .1) at es in
+      rw (read-big 8 (s .clock) clock, read-big 1 (s .count) count, programs, entries)
+
+-- an image is written again from its schedule
+pub image-loaded : (l : List ℕ) → Bytes l → formed l ≡ true → image (loaded l) ≡ l
+unfolding loaded image formed
+image-loaded l b f =
+    let t = and-eq-true-iff (eqb (length l) 2265) _ .0 f in
+    let m = and-eq-true-iff (marked 6 8 9 l) (marked 46 48 102 l) .0 (t .1) in
+    let n : length l ≡ 2265 = eqb-true (length l) 2265 (t .0) in
+    let end : drop 2265 l ≡ [] = drop-of-length-le l {i = 2265} (omega arith) in
+    let entries : flat entryBytes (many entryAt 46 48 57 l) ≡ drop 57 l =
+    sym (append-nil _) ∙ rw end at (flat-of-many entry-inverse l b 48 57 (omega arith) (m .1)) in
+    rw (entries, flat-of-many program-inverse l b 8 9 (omega arith) (m .0), piece l b 1 8 (omega arith), piece l b 8 0 (omega arith))

@@ -1,0 +1,117 @@
+-- Numbers and things in a row, and their bytes, are inverse: by induction over the width and over the things.
+use mathlib.Core.Path.{_≡_, refl, ap₂, _∙_}
+use mathlib.Core.Logic.{inl, inr}
+use mathlib.Core.Bool.{true, and-eq-true-iff}
+use Prim.Native.Nat.{ℕ, zero, suc, _+_, _*_, _/_, _%_, _^_, _<_, _≤_}
+use mathlib.Core.List.{List, [], _∷_, _++_, append-assoc}
+use native.Mathlib.Omega.{arith}
+use native.Mathlib.Nat.{pow-succ', mul-suc}
+use borrow.Author.Tests.{leb-true, le-leb}
+use lib.Dec.{leb}
+use lib.ListN.{length, take, drop, getD, length-append, length-drop, List·getD-append, take-append-drop}
+use lib.Seq.{take-suc, getD-drop, getD-at, drop-drop, drop-at}
+use Rattle.rules.specs.Lists.{All}
+use Rattle.rules.specs.Bytes.{big, read, flat, many}
+use Rattle.rules.specs.Image.{marked}
+
+pub big-length : (n x : ℕ) → length (big n x) ≡ n
+unfolding big
+big-length zero x = refl
+big-length (suc n) x = simp length-append (omega (arith, big-length n (x / 256)))
+
+-- reading within the first of two lists
+pub read-first : (n at : ℕ) (p q : List ℕ) → at + n ≤ length p → read n at (p ++ q) ≡ read n at p
+unfolding read
+read-first zero at p q h = refl
+read-first (suc n) at p q h = rw (read-first n at p q (omega arith), List·getD-append p q 0 (at + n) (omega arith))
+
+-- reading past the first k
+pub read-drop : (n at k : ℕ) (l : List ℕ) → read n at (drop k l) ≡ read n (k + at) l
+unfolding read
+read-drop zero at k l = refl
+read-drop (suc n) at k l = let e : k + (at + n) ≡ k + at + n = omega arith in rw (read-drop n at k l, getD-drop, e)
+
+-- a number's bytes are that number
+pub read-big : (n x : ℕ) → x < 256 ^ n → read n 0 (big n x) ≡ x
+unfolding big read
+read-big zero x h = omega arith
+read-big (suc n) x h =
+    let y = x / 256 in
+    let small : y < 256 ^ n = omega (arith, pow-succ' 256 n) in
+    let high = read-first n 0 (big n y) (x % 256 ∷ []) (omega (arith, big-length n y)) ∙ read-big n y small in
+    let low = getD-at (big n y) (x % 256) [] 0 (0 + n) (omega (arith, big-length n y)) in
+    omega (arith, high, low)
+
+-- each element is a byte
+abbrev pub Bytes : List ℕ → Type 0
+Bytes l = (i : ℕ) → getD l i 0 < 256
+
+-- bytes are those of the number that they are
+module _ (l : List ℕ) (b : Bytes l) where
+  pub big-read : (n at : ℕ) → at + n ≤ length l → big n (read n at l) ≡ take n (drop at l)
+  unfolding big read
+  big-read zero at h = refl
+  big-read (suc n) at h =
+      let d = getD l (at + n) 0 in
+      let high : (read n at l * 256 + d) / 256 ≡ read n at l = omega (arith, b (at + n)) in
+      let low : (read n at l * 256 + d) % 256 ≡ d = omega (arith, b (at + n)) in
+      let within : n < length (drop at l) = simp length-drop (omega arith) in
+      rw (high, low, big-read n at (omega arith), take-suc (drop at l) n 0 within, getD-drop)
+
+  -- a number's bytes and then the rest
+  pub piece : (n at : ℕ) → at + n ≤ length l → big n (read n at l) ++ drop (at + n) l ≡ drop at l
+  piece n at h = rw (big-read n at h, ← drop-drop n at l) (take-append-drop n (drop at l))
+
+-- things one after the other, of k bytes each
+module _ {A : Type 0} (put : A → List ℕ) (k : ℕ) (size : (x : A) → length (put x) ≡ k) where
+  pub flat-length : (xs : List A) → length (flat put xs) ≡ k * length xs
+  unfolding flat
+  flat-length [] = omega arith
+  flat-length (x ∷ xs) = simp length-append (omega (arith, size x, flat-length xs, mul-suc k (length xs)))
+
+-- a thing of k bytes, with a mark at byte m, is inverse to its bytes; P says that its fields fit
+pub record Inverse {A : Type 0} (P : A → Type 0) (f : ℕ → List ℕ → A) (put : A → List ℕ) (k m : ℕ) : Type 0 where
+  pub size : (x : A) → length (put x) ≡ k
+  pub marks : (x : A) (r : List ℕ) → read 1 m (put x ++ r) ≤ 1
+  pub reads : (x : A) → P x → (r : List ℕ) → f 0 (put x ++ r) ≡ x
+  pub puts : (l : List ℕ) → Bytes l → k ≤ length l → read 1 m l ≤ 1 → put (f 0 l) ++ drop k l ≡ l
+  pub moves : (at : ℕ) (l : List ℕ) → f 0 (drop at l) ≡ f at l
+
+-- then so are things one after the other
+module _ {A : Type 0} {P : A → Type 0} {f : ℕ → List ℕ → A} {put : A → List ℕ} {k m : ℕ} (one : Inverse P f put k m) where
+  -- the first, and what is past it
+  module _ (x : A) (xs : List A) (r : List ℕ) (at : ℕ) (l : List ℕ) (e : drop at l ≡ flat put (x ∷ xs) ++ r) where
+    this : drop at l ≡ put x ++ (flat put xs ++ r)
+    unfolding flat
+    this = rw append-assoc at e
+
+    rest : drop (at + k) l ≡ flat put xs ++ r
+    rest = rw (← drop-drop k at l, this) (drop-at (put x) (flat put xs ++ r) k (one .size x))
+
+  pub many-of-flat : (xs : List A) → All P xs → (r : List ℕ) (at : ℕ) (l : List ℕ) → drop at l ≡ flat put xs ++ r → many f k (length xs) at l ≡ xs
+  unfolding many
+  many-of-flat [] a r at l e = refl
+  many-of-flat (x ∷ xs) a r at l e =
+      let head : f at l ≡ x = rw (← one .moves at l, this x xs r at l e) (one .reads x (a x (inl refl)) (flat put xs ++ r)) in
+      ap₂ _∷_ head (many-of-flat xs (λ y i. a y (inr i)) r (at + k) l (rest x xs r at l e))
+
+  pub marked-of-flat : (xs : List A) (r : List ℕ) (at : ℕ) (l : List ℕ) → drop at l ≡ flat put xs ++ r → marked k (length xs) (at + m) l ≡ true
+  unfolding marked
+  marked-of-flat [] r at l e = refl
+  marked-of-flat (x ∷ xs) r at l e =
+      let z : at + m + k ≡ at + k + m = omega arith in
+      let mark : read 1 (at + m) l ≤ 1 = rw (← read-drop 1 m at l, this x xs r at l e) (one .marks x (flat put xs ++ r)) in
+      rw (le-leb (read 1 (at + m) l) 1 mark, z) (marked-of-flat xs r (at + k) l (rest x xs r at l e))
+
+  pub flat-of-many : (l : List ℕ) → Bytes l → (n at : ℕ) → at + k * n ≤ length l → marked k n (at + m) l ≡ true
+      → flat put (many f k n at l) ++ drop (at + k * n) l ≡ drop at l
+  unfolding many flat marked
+  flat-of-many l b zero at h t = let z : at + k * 0 ≡ at = omega arith in rw z
+  flat-of-many l b (suc n) at h t =
+      let z : at + k * suc n ≡ at + k + k * n = omega (arith, mul-suc k n) in
+      let y : at + m + k ≡ at + k + m = omega arith in
+      let t′ = and-eq-true-iff (leb (read 1 (at + m) l) 1) (marked k n (at + m + k) l) .0 t in
+      let mark : read 1 m (drop at l) ≤ 1 = rw read-drop (leb-true (read 1 (at + m) l) 1 (t′ .0)) in
+      let room : k ≤ length (drop at l) = simp length-drop (omega arith) in
+      rw (append-assoc, z, flat-of-many l b n (at + k) (omega arith) (rw y at (t′ .1)), ← one .moves at l, ← drop-drop k at l)
+      (one .puts (drop at l) (λ i. rw getD-drop (b (at + i))) room mark)

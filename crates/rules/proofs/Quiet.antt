@@ -1,0 +1,88 @@
+-- Where nothing begins or ends, a second changes the clock alone.
+use mathlib.Core.Path.{_≡_, refl, sym, ap, ap₂, _∙_, subst}
+use mathlib.Core.Logic.{inl, inr}
+use Prim.Native.Nat.{ℕ, suc, _<_, _≤_}
+use mathlib.Core.Bool.{Bool, true, false, cond, not, _||_}
+use mathlib.Core.List.{List, [], _∷_, _++_, map}
+use native.Mathlib.Omega.{arith}
+use lib.Dec.{ltb, leb, eqb}
+use borrow.Author.Tests.{ltb-true, lt-ltb, lt-leb, ne-eqb}
+use Rattle.rules.specs.declared.Entry.{Entry}
+use Rattle.rules.specs.declared.Program.{Program}
+use Rattle.rules.specs.Lists.{keep, In, All}
+use Rattle.rules.specs.Records.{State, has, cut}
+use Rattle.rules.specs.Holding.{rankOf, better, claim, taken, heldAt, Holding, holdingAt, withHolding, endOf}
+use Rattle.rules.specs.Rows.{Row, codeAt, rowOf, rowsWith, rowsFrom, rowsAt, ending, superseded, starting}
+use Rattle.rules.specs.Moments.{Moved, entriesFrom, lasts, second}
+use Rattle.rules.specs.Arrival.{OneHolder}
+use Rattle.rules.proofs.Tests.{both}
+use Rattle.rules.proofs.ListLaws.{keep-all, keep-no, map-same}
+use Rattle.rules.proofs.Masks.{cut-apart}
+use Rattle.rules.proofs.Ranks.{better-self}
+use Rattle.rules.proofs.Claims.{Kind}
+use Rattle.rules.proofs.Holders.{has-taken}
+
+-- two that hold one control are one
+same-holder : (hs : List Entry) → OneHolder hs → (h o : Entry) → In h hs → In o hs → (c : ℕ) → has (h .held) c ≡ true → has (o .held) c ≡ true → h ≡ o
+same-holder (x ∷ xs) one h o (inl p) (inl q) c e d = p ∙ sym q
+same-holder (x ∷ xs) one h o (inl p) (inr n) c e d = absurd (one .0 o n c (rw p at e) d)
+same-holder (x ∷ xs) one h o (inr m) (inl q) c e d = absurd (one .0 h m c (rw q at d) e)
+same-holder (x ∷ xs) one h o (inr m) (inr n) c e d = same-holder xs (one .1) h o m n c e d
+
+-- an entry as an image may have it at clock c, that neither begins nor ends a second later
+pub record Resting (c : ℕ) (h : Entry) : Type 0 where
+  pub lasting : c < endOf h
+  pub early : c < h .begins → h .held ≡ 0
+  pub stopped : h .cancelled ≡ true → h .held ≡ 0
+  pub not-begin : h .begins ≡ suc c → ⊥
+  pub not-end : endOf h ≡ suc c → ⊥
+
+claim-resting : (c : ℕ) (h : Entry) → Resting c h → claim (suc c) h ≡ h .held
+unfolding claim
+claim-resting c h r = rw (lt-leb (endOf h) (suc c) (let e = r .not-end in omega (arith, r .lasting)), ne-eqb (h .begins) (suc c) (r .not-begin)) (go (h .cancelled) refl (ltb (suc c) (h .begins)) refl)
+  where
+    go : (b : Bool) → h .cancelled ≡ b → (d : Bool) → ltb (suc c) (h .begins) ≡ d → cond ((b || false) || d) 0 (h .held) ≡ h .held
+    go true p d q = sym (r .stopped p)
+    go false p true q = sym (r .early (omega (arith, ltb-true (suc c) (h .begins) q)))
+    go false p false q = refl
+
+code-resting : (c : ℕ) (h : Entry) → Resting c h → codeAt (suc c) h (record { held = h .held }) ≡ 0
+unfolding codeAt
+code-resting c h r = rw (ne-eqb (h .begins) (suc c) (r .not-begin), ne-eqb (endOf h) (suc c) (r .not-end)) (go (h .cancelled || ltb (endOf h) (suc c) || ltb (suc c) (h .begins)) (eqb (h .held) 0))
+  where
+    go : (b d : Bool) → cond {A = ℕ} b 0 (cond (d || not d) 0 7) ≡ 0
+    go true d = refl
+    go false true = refl
+    go false false = refl
+
+module _ (s : State) (one : OneHolder (s .entries)) (rest : All (Resting (s .clock)) (s .entries)) where
+  abbrev t : ℕ
+  t = suc (s .clock)
+
+  held-resting : (h : Entry) → In h (s .entries) → holdingAt (s .programs) t (s .entries) h ≡ record { held = h .held }
+  unfolding holdingAt heldAt
+  held-resting h m = rw (claim-resting (s .clock) h (rest h m)) (ap (λ m. record { held = m }) (cut-apart (h .held) (taken (s .programs) t (s .entries) h) apart))
+    where
+      apart : (c : ℕ) → has (h .held) c ≡ true → has (taken (s .programs) t (s .entries) h) c ≡ true → ⊥
+      apart c e d =
+          let r = has-taken (s .programs) t h c (s .entries) d in
+          let q = same-holder (s .entries) one h (r .0) m (r .1) c e (rw (claim-resting (s .clock) (r .0) (rest (r .0) (r .1))) at (r .3)) in
+          both (better (rankOf (s .programs) (h .event)) (rankOf (s .programs) (h .event))) (subst (λ o. better (rankOf (s .programs) (o .event)) (rankOf (s .programs) (h .event)) ≡ true) (sym q) (r .2)) (better-self (rankOf (s .programs) (h .event)))
+
+  pub quiet : second s ≡ record { state = record { clock = t; programs = s .programs; entries = s .entries }; rows = [] }
+  unfolding second entriesFrom rowsAt rowsFrom rowsWith
+  quiet = λ i. record { state = record { clock = t; programs = s .programs; entries = (entries-eq i) }; rows = rows-eq i }
+    where
+      is : Entry → Holding
+      is = holdingAt (s .programs) t (s .entries)
+
+      entries-eq : map (λ h. withHolding h (is h)) (keep (lasts t) (s .entries)) ≡ s .entries
+      entries-eq = ap (map (λ h. withHolding h (is h))) (keep-all (lasts t) (s .entries) (λ h m. lt-ltb t (endOf h) (let e = rest h m .not-end in omega (arith, rest h m .lasting))))
+          ∙ map-same (λ h. withHolding h (is h)) (s .entries) (λ h m. ap (withHolding h) (held-resting h m))
+
+      none : (kind : ℕ → Bool) → Kind kind → rowsWith t is (s .entries) kind ≡ []
+      none kind e = ap (map (rowOf t is)) (keep-no (λ h. kind (codeAt t h (is h))) (s .entries)
+          (λ h m. ap (λ n. kind (codeAt t h n)) (held-resting h m) ∙ ap kind (code-resting (s .clock) h (rest h m)) ∙ e))
+
+      rows-eq : rowsWith t is (s .entries) ending ++ (rowsWith t is (s .entries) superseded ++ rowsWith t is (s .entries) starting) ≡ []
+      rows-eq = ap₂ _++_ (none ending refl) (ap₂ _++_ (none superseded refl) (none starting refl))

@@ -1,0 +1,77 @@
+-- Numbers, events, entries and rows as bytes, the most significant byte first.
+use Prim.Native.Nat.{ℕ, zero, suc, _+_, _*_, _/_, _%_}
+use mathlib.Core.Bool.{Bool, cond}
+use mathlib.Core.List.{List, [], _∷_, _++_}
+use lib.Dec.{eqb}
+use lib.ListN.{getD}
+use Rattle.rules.specs.declared.Id.{Id}
+use Rattle.rules.specs.declared.Event.{Event}
+use Rattle.rules.specs.declared.Entry.{Entry}
+use Rattle.rules.specs.Records.{idOf}
+use Rattle.rules.specs.Rows.{Row}
+
+-- the last n bytes of a number
+unfoldable pub big : ℕ → ℕ → List ℕ
+big zero x = []
+big (suc n) x = big n (x / 256) ++ (x % 256 ∷ [])
+
+-- the number in the n bytes of l from `at`
+unfoldable pub read : ℕ → ℕ → List ℕ → ℕ
+read zero at l = 0
+read (suc n) at l = read n at l * 256 + getD l (at + n) 0
+
+-- things one after the other
+unfoldable pub flat : {A : Type 0} → (A → List ℕ) → List A → List ℕ
+flat put [] = []
+flat put (x ∷ xs) = put x ++ flat put xs
+
+-- n things of k bytes each, from `at`
+unfoldable pub many : {A : Type 0} → (ℕ → List ℕ → A) → ℕ → ℕ → ℕ → List ℕ → List A
+many f k zero at l = []
+many f k (suc n) at l = f at l ∷ many f k n (at + k) l
+
+-- Response rows, a row's 17 bytes
+unfoldable pub rowBytes : Row → List ℕ
+rowBytes r = big 8 (r .time) ++ (big 8 (r .id) ++ big 1 (r .code))
+
+abbrev pub bytes : List Row → List ℕ
+bytes rs = flat rowBytes rs
+
+-- 8 bytes of an id
+abbrev pub idAt : ℕ → List ℕ → Id
+idAt at l = record { value = read 8 at l }
+
+-- Frames and image, the 33 field bytes of an event
+unfoldable pub eventBytes : Event → List ℕ
+eventBytes e =
+    big 8 (idOf e) ++ (big 1 (e .program) ++ (big 4 (e .controls) ++ (big 4 (e .created) ++ (big 4 (e .start) ++ (big 4 (e .duration)
+    ++ (big 2 (e .«randomize_start») ++ (big 2 (e .«randomize_duration») ++ (big 2 (e .«start_draw») ++ big 2 (e .«duration_draw»)))))))))
+
+unfoldable pub eventAt : ℕ → List ℕ → Event
+eventAt at l =
+    record {
+      id = idAt at l;
+      program = read 1 (at + 8) l;
+      controls = read 4 (at + 9) l;
+      created = read 4 (at + 13) l;
+      start = read 4 (at + 17) l;
+      duration = read 4 (at + 21) l;
+      «randomize_start» = read 2 (at + 25) l;
+      «randomize_duration» = read 2 (at + 27) l;
+      «start_draw» = read 2 (at + 29) l;
+      «duration_draw» = read 2 (at + 31) l;
+    }
+
+-- a mark is a byte, 1 or 0
+abbrev pub flag : Bool → List ℕ
+flag b = cond b 1 0 ∷ []
+
+abbrev pub flagAt : ℕ → List ℕ → Bool
+flagAt at l = eqb (read 1 at l) 1
+
+-- Frames and image, an event entry of 46 bytes
+unfoldable pub entryBytes : Entry → List ℕ
+entryBytes h = eventBytes (h .event) ++ (big 8 (h .begins) ++ (big 4 (h .held) ++ flag (h .cancelled)))
+
+unfoldable pub entryAt : ℕ → List ℕ → Entry
+entryAt at l = record { event = eventAt at l; begins = read 8 (at + 33) l; held = read 4 (at + 41) l; cancelled = flagAt (at + 45) l }

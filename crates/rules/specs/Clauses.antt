@@ -1,0 +1,162 @@
+-- Document 01's sentences on holding, rows and states, said of the definitions. Each field is one clause; all are proved (promise `clauses`).
+-- `ps` are the programs, `ts` all events of a history, and Holds t c x says that the event x holds the control c at moment t.
+use mathlib.Core.Path.{_≡_}
+use mathlib.Core.Logic.{_↔_, _⊎_}
+use Prim.Native.Nat.{ℕ, zero, suc, _+_, _*_, _<_, _≤_}
+use mathlib.Core.Bool.{Bool, true, false, cond, _||_}
+use mathlib.Core.List.{List, [], _∷_, _++_, map}
+use mathlib.Core.Option.{Option, none, some}
+use lib.Dec.{eqb}
+use lib.ListN.{length}
+use Rattle.rules.specs.declared.Event.{Event}
+use Rattle.rules.specs.declared.Answer.{Answer}
+use Rattle.rules.specs.declared.Entry.{Entry}
+use Rattle.rules.specs.declared.Program.{Program}
+use Rattle.rules.specs.declared.Schedule.{Schedule}
+use Rattle.rules.specs.Lists.{In}
+use Rattle.rules.specs.Records.{State, idOf, has, fresh, view, pad}
+use Rattle.rules.specs.Period.{effectiveEnd}
+use Rattle.rules.specs.Holding.{Rank, rankOf, better, heldAt, Holding, endOf}
+use Rattle.rules.specs.Rows.{Row, codeAt, rowsWith, rowsAt, ending, superseded, starting}
+use Rattle.rules.specs.Moments.{Moved, second, passed}
+use Rattle.rules.specs.Sound.{sound}
+use Rattle.rules.specs.Calls.{Call, deliver, setClock, code, count, numberOf, valueOf, lentBytes, lentList, call}
+use Rattle.rules.specs.Image.{imageSize, image, loaded, imaged}
+use Rattle.rules.specs.Face.{Operation, asCall, idTooLong, shown, negative, lentAfter, FaceOutcome, face, faceFresh}
+use Rattle.rules.specs.Schedules.{Timed, goneBy, holding, seen}
+
+-- the event holds the control at the moment
+abbrev pub Holds : List Program → List Timed → ℕ → ℕ → Timed → Type 0
+Holds ps ts t c x = has (holding ps ts t x .held) c ≡ true
+
+abbrev pub Better : List Program → Timed → Timed → Type 0
+Better ps o x = better (rankOf ps (o .event)) (rankOf ps (x .event)) ≡ true
+
+-- no better event holds the control at the moment
+abbrev pub Free : List Program → List Timed → ℕ → ℕ → Timed → Type 0
+Free ps ts t c x = (o : Timed) → In o ts → Better ps o x → Holds ps ts t c o → ⊥
+
+abbrev pub Carries : ℕ → Timed → Type 0
+Carries c x = has (x .event .controls) c ≡ true
+
+abbrev pub ends : Timed → ℕ
+ends x = effectiveEnd (x .event)
+
+-- no cancellation at a clock before the moment
+abbrev pub Standing : ℕ → Timed → Type 0
+Standing t x = (k : ℕ) → x .cancelled ≡ some k → t ≤ k
+
+-- Who holds a control, better
+pub record RankClauses : Type 0 where
+  -- nobody is better than itself
+  pub strict : (a : Rank) → better a a ≡ false
+  pub transitive : (a b c : Rank) → better a b ≡ true → better b c ≡ true → better a c ≡ true
+  -- of two with different ids one is better
+  pub total : (a b : Rank) → (a .id ≡ b .id → ⊥) → (better a b ≡ true) ⊎ (better b a ≡ true)
+
+-- Who holds a control, of a history's events
+pub record HoldingClauses (ps : List Program) (ts : List Timed) : Type 0 where
+  -- holds from the effective start, unless a better event holds it at that moment
+  pub from-start : (t c : ℕ) (x : Timed) → In x ts → x .begins ≡ suc t → suc t < ends x → Standing (suc t) x → Carries c x
+      → Holds ps ts (suc t) c x ↔ Free ps ts (suc t) c x
+  -- goes on holding, until a better event holds it
+  pub until-better : (t c : ℕ) (x : Timed) → In x ts → x .begins ≤ t → suc t < ends x → Standing (suc t) x
+      → Holds ps ts (suc t) c x ↔ (Holds ps ts t c x × Free ps ts (suc t) c x)
+  -- holds what it carries, and nothing before its effective start
+  pub not-before : (t c : ℕ) (x : Timed) → In x ts → Holds ps ts t c x → Carries c x × (x .begins ≤ t)
+  -- nor from its effective end on, so that at one moment ends come before starts
+  pub not-after : (t c : ℕ) (x : Timed) → Holds ps ts t c x → t < ends x
+  -- nor after the moment of its cancellation, and nothing once the call is made
+  pub not-cancelled : (t c : ℕ) (x : Timed) → Holds ps ts t c x → Standing t x
+  pub gone-at-once : (t : ℕ) (x : Timed) → goneBy t (x .cancelled) ≡ true → seen ps ts t x .held ≡ 0
+  -- never gets it back
+  pub never-back : (t u c : ℕ) (x : Timed) → In x ts → x .begins ≤ t → t ≤ u → Holds ps ts u c x → Holds ps ts t c x
+  -- closed form: one interval, from the effective start to the first of end, cancellation and a better holder
+  pub interval : (t c : ℕ) (x : Timed) → In x ts → 0 < x .begins
+      → Holds ps ts t c x ↔ (Carries c x × (x .begins ≤ t) × (t < ends x) × Standing t x × ((u : ℕ) → x .begins ≤ u → u ≤ t → Free ps ts u c x))
+  -- at most one holder of a control at a moment
+  pub one-holder : (t c : ℕ) (x y : Timed) → In x ts → In y ts → (idOf (x .event) ≡ idOf (y .event) → ⊥) → Holds ps ts t c x → Holds ps ts t c y → ⊥
+
+-- Response rows: how many an event has given up to moment t
+unfoldable pub given : List Program → List Timed → ℕ → Timed → ℕ
+given ps ts zero x = 0
+given ps ts (suc t) x = given ps ts t x + cond (eqb (codeAt (suc t) (seen ps ts t x) (holding ps ts (suc t) x)) 0) 0 1
+
+-- whether an entry begins or ends at moment t
+unfoldable pub busy : ℕ → List Entry → Bool
+busy t [] = false
+busy t (h ∷ hs) = eqb (h .begins) t || (eqb (endOf h) t || busy t hs)
+
+-- Who holds a control and Response rows, from one moment to the next
+pub record MomentClauses : Type 0 where
+  -- an event that holds nothing blocks nobody: without it, all others hold the same
+  pub blocks-nobody : (ps : List Program) (t : ℕ) (before after : List Entry) (o : Entry) → heldAt ps t (before ++ (o ∷ after)) o ≡ 0
+      → (h : Entry) → heldAt ps t (before ++ after) h ≡ heldAt ps t (before ++ (o ∷ after)) h
+  -- an event gives no row after its cancellation
+  pub silent : (t : ℕ) (h : Entry) (now : Holding) → h .cancelled ≡ true → codeAt t h now ≡ 0
+  -- an event gives at most two rows in its life
+  pub two-rows : (ps : List Program) (ts : List Timed) (t : ℕ) (x : Timed) → given ps ts t x ≤ 2
+  -- a clock call gives at most two for each held event, so at most 96
+  pub few-rows : (s : Schedule) → sound s ≡ true → (reading : ℕ) → length (passed (view s) reading .rows) ≤ 96
+  -- where nothing begins or ends, a second changes the clock alone
+  pub quiet : (s : Schedule) → sound s ≡ true → busy (suc (s .clock)) (view s .entries) ≡ false
+      → second (view s) ≡ record { state = record { clock = suc (s .clock); programs = s .programs; entries = view s .entries }; rows = [] }
+
+-- Calls and Numbers given
+pub record CallClauses : Type 0 where
+  -- a refused call leaves the schedule, the buffer and the list as they came in
+  pub unchanged : (s : Schedule) (c : Call) → (call s c .number ≡ 0 → ⊥)
+      → (call s c .state ≡ s) × (call s c .bytes ≡ lentBytes c) × (call s c .records ≡ lentList c)
+  -- a schedule that breaks a rule is refused with 2, whatever is asked of it
+  pub broken : (s : Schedule) (c : Call) → sound s ≡ false → call s c .number ≡ 2
+  -- an event given again, every field the same, is accepted and changes nothing
+  pub again : (s : Schedule) (h : Entry) → sound s ≡ true → In h (view s .entries)
+      → call s (deliver (h .event)) ≡ record { number = 0; value = code 0; state = s; bytes = []; records = [] }
+  -- an event with another field under a held id, a fresh draw too, is never accepted
+  pub redrawn : (s : Schedule) (h : Entry) (e : Event) → sound s ≡ true → In h (view s .entries) → idOf (h .event) ≡ idOf e → (h .event ≡ e → ⊥)
+      → call s (deliver e) .number ≡ 0 → ⊥
+  -- 10 is given at 48 held events and not before
+  pub full : (s : Schedule) (e : Event) → sound s ≡ true → call s (deliver e) .number ≡ 10 → length (view s .entries) ≡ 48
+  -- 13 is given for a buffer that is shorter than the rows, and not for one that they fit
+  pub too-short : (s : Schedule) (t : ℕ) (b : List ℕ) → sound s ≡ true → call s (setClock t b) .number ≡ 13 → length b < 17 * length (passed (view s) t .rows)
+  -- the same reading is accepted, whatever the buffer, and writes nothing
+  pub same-reading : (s : Schedule) (b : List ℕ) → sound s ≡ true
+      → call s (setClock (s .clock) b) ≡ record { number = 0; value = count 0; state = s; bytes = b; records = [] }
+
+-- Form by location, answers that are enums: their numbers and values tell them apart
+pub record AnswerClause : Type 0 where
+  pub apart : (a b : Answer) → numberOf a ≡ numberOf b → valueOf a ≡ valueOf b → a ≡ b
+
+-- Frames and image, C hosts
+pub record FaceClauses : Type 0 where
+  -- an image that is none is refused with 2, and no byte of it changes
+  pub broken : (l : List ℕ) (op : Operation) (lent : List ℕ) → imaged l ≡ false → face l op lent ≡ record { returned = negative 2; image = l; lent = lent }
+  -- a call that is refused by value is refused with the same number, and no byte changes
+  pub unchanged : (l : List ℕ) (op : Operation) (lent : List ℕ) → imaged l ≡ true → (call (loaded l) (asCall op lent) .number ≡ 0 → ⊥)
+      → face l op lent ≡ record { returned = negative (call (loaded l) (asCall op lent) .number); image = l; lent = lent }
+  -- a call that is accepted by value answers and leaves the image as that call does; a question's holder needs room for its id
+  pub same : (l : List ℕ) (op : Operation) (lent : List ℕ) → imaged l ≡ true → call (loaded l) (asCall op lent) .number ≡ 0
+      → idTooLong op (call (loaded l) (asCall op lent) .value) (length lent) ≡ false
+      → face l op lent ≡ record { returned = shown (call (loaded l) (asCall op lent) .value); image = image (call (loaded l) (asCall op lent) .state); lent = lentAfter op (call (loaded l) (asCall op lent)) lent }
+  -- the fresh image is accepted, and is that of the fresh schedule
+  pub fresh : (l : List ℕ) → length l ≡ imageSize → (imaged (faceFresh l .image) ≡ true) × (loaded (faceFresh l .image) ≡ pad fresh)
+
+-- Frames and image: the rules are kept by every call
+pub record SoundClause : Type 0 where
+  pub kept : (s : Schedule) → sound s ≡ true → (c : Call) → sound (call s c .state) ≡ true
+
+-- Frames and image: an image and its schedule give each other back
+pub record ImageKept (s : Schedule) : Type 0 where
+  -- the image keeps its length and every rule
+  pub accepted : imaged (image s) ≡ true
+  -- the schedule in it is the one that it was made of
+  pub back : loaded (image s) ≡ s
+
+pub record Clauses : Type 0 where
+  pub rank : RankClauses
+  pub holding : (ps : List Program) (ts : List Timed) → HoldingClauses ps ts
+  pub moments : MomentClauses
+  pub calls : CallClauses
+  pub answers : AnswerClause
+  pub face : FaceClauses
+  pub sound : SoundClause

@@ -1,0 +1,54 @@
+-- Frames and image, frames: a line of upper-case hexadecimal pairs, and the call that it stands for.
+use Prim.Native.Nat.{ℕ, _+_, _-_, _*_}
+use mathlib.Core.Bool.{Bool, true, false, cond, _&&_}
+use mathlib.Core.List.{List, [], _∷_}
+use lib.Dec.{leb, ltb, eqb}
+use lib.ListN.{length, getD}
+use Rattle.rules.specs.declared.Frame.{Frame}
+use Rattle.rules.specs.declared.Frame.the-variants as frame
+use Rattle.rules.specs.declared.Line.{Line}
+use Rattle.rules.specs.declared.Line.the-variants.{Good, Bad}
+use Rattle.rules.specs.Bytes.{read, idAt, eventAt}
+use Rattle.rules.specs.Calls.{Call, addProgram, deliver, cancel, setClock, ask}
+
+-- what a hexadecimal digit stands for, 0 to 9 and upper-case A to F; 16 for any other byte
+unfoldable pub digit : ℕ → ℕ
+digit c = cond (leb 48 c && leb c 57) (c - 48) (cond (leb 65 c && leb c 70) (c - 55) 16)
+
+-- whether a line is pairs of digits
+unfoldable pub paired : List ℕ → Bool
+paired [] = true
+paired (x ∷ []) = false
+paired (x ∷ y ∷ rest) = ltb (digit x) 16 && (ltb (digit y) 16 && paired rest)
+
+-- the bytes that the pairs stand for
+unfoldable pub unhex : List ℕ → List ℕ
+unhex [] = []
+unhex (x ∷ []) = []
+unhex (x ∷ y ∷ rest) = (16 * digit x + digit y) ∷ unhex rest
+
+-- a frame is of a kind and of its length
+unfoldable pub isFrame : ℕ → ℕ → List ℕ → Bool
+isFrame kind size b = eqb (length b) size && eqb (getD b 0 0) kind
+
+-- Frames and image, the five kinds with their lengths and fields
+unfoldable pub frameOf : List ℕ → Line
+frameOf b =
+    cond (isFrame 1 34 b) (Good (frame.Event (eventAt 1 b)))
+    (cond (isFrame 2 9 b) (Good (frame.Cancel (idAt 1 b)))
+    (cond (isFrame 3 9 b) (Good (frame.Clock (read 8 1 b)))
+    (cond (isFrame 4 7 b) (Good (frame.Program (read 1 1 b) (read 1 2 b) (read 4 3 b)))
+    (cond (isFrame 5 2 b) (Good (frame.Ask (read 1 1 b)))
+    Bad))))
+
+-- Numbers given, 1: a line that is no frame is `Bad`
+unfoldable pub lineOf : List ℕ → Line
+lineOf l = cond (paired l) (frameOf (unhex l)) Bad
+
+-- the call that a frame stands for; a clock reading is given a buffer
+abbrev pub frameCall : Frame → List ℕ → Call
+frameCall (frame.Event e) room = deliver e
+frameCall (frame.Cancel i) room = cancel (i .value)
+frameCall (frame.Clock t) room = setClock t room
+frameCall (frame.Program n p d) room = addProgram n p d
+frameCall (frame.Ask c) room = ask c

@@ -1,0 +1,83 @@
+-- Call lists: what the accepted calls of a list brought.
+use Prim.Native.Nat.{ℕ}
+use mathlib.Core.Bool.{Bool, true, false, cond, _&&_, _||_}
+use mathlib.Core.List.{List, [], _∷_, map}
+use mathlib.Core.Option.{Option, none, some}
+use lib.Dec.{ltb, eqb}
+use Rattle.rules.specs.declared.Event.{Event}
+use Rattle.rules.specs.declared.Schedule.{Schedule}
+use Rattle.rules.specs.Lists.{insert}
+use Rattle.rules.specs.Records.{idOf, fresh, pad}
+use Rattle.rules.specs.Period.{effectiveEnd}
+use Rattle.rules.specs.Sound.{sameEvent}
+use Rattle.rules.specs.Calls.{Call, addProgram, deliver, cancel, setClock, ask, list, accepts, call}
+
+-- Call lists, the accepted calls of a list that is run from a schedule
+unfoldable pub acceptedCalls : Schedule → List Call → List Call
+acceptedCalls s [] = []
+acceptedCalls s (c ∷ cs) = cond (accepts s c) (c ∷ acceptedCalls (call s c .state) cs) (acceptedCalls (call s c .state) cs)
+
+-- Call lists, a program that was added
+pub record Added : Type 0 where
+  pub number : ℕ
+  pub primacy : ℕ
+  pub defaults : ℕ
+
+-- Call lists, an event with its receipt clock, and the clock of its cancellation if it has one
+pub record Brought : Type 0 where
+  pub event : Event
+  pub receipt : ℕ
+  pub cancelled : Option ℕ
+
+-- Call lists: the programs; the events by ascending id, those of one id in the order of receipt; the last clock reading
+pub record History : Type 0 where
+  pub programs : List Added
+  pub brought : List Brought
+  pub last : ℕ
+
+abbrev pub noHistory : History
+noHistory = record { programs = []; brought = []; last = 0 }
+
+abbrev pub broughtId : Brought → ℕ
+broughtId b = idOf (b .event)
+
+-- whether the same record was brought before
+abbrev pub known : Event → List Brought → Bool
+known e [] = false
+known e (b ∷ bs) = sameEvent (b .event) e || known e bs
+
+-- Call lists, an event given again counts once
+abbrev pub bring : Event → ℕ → List Brought → List Brought
+bring e clock bs = cond (known e bs) bs (insert broughtId (record { event = e; receipt = clock; cancelled = none }) bs)
+
+-- whether the event is the one held under the id at the clock
+abbrev pub heldUnder : ℕ → ℕ → Event → Bool
+heldUnder i clock e = eqb (idOf e) i && ltb clock (effectiveEnd e)
+
+-- Call lists, a cancellation: the clock of the first one counts
+abbrev pub cancelledAt : Bool → ℕ → Option ℕ → Option ℕ
+cancelledAt false clock c = c
+cancelledAt true clock none = some clock
+cancelledAt true clock (some k) = some k
+
+abbrev pub cancelBrought : ℕ → ℕ → Brought → Brought
+cancelBrought i clock b =
+    record { event = b .event; receipt = b .receipt; cancelled = cancelledAt (heldUnder i clock (b .event)) clock (b .cancelled) }
+
+-- a history, and then an accepted call
+unfoldable pub note : History → Call → History
+note H (addProgram n p d) =
+    record { programs = record { number = n; primacy = p; defaults = d } ∷ H .programs; brought = H .brought; last = H .last }
+note H (deliver e) = record { programs = H .programs; brought = bring e (H .last) (H .brought); last = H .last }
+note H (cancel i) = record { programs = H .programs; brought = map (cancelBrought i (H .last)) (H .brought); last = H .last }
+note H (setClock t b) = record { programs = H .programs; brought = H .brought; last = t }
+note H (ask c) = H
+note H (list r) = H
+
+unfoldable pub historyFrom : History → List Call → History
+historyFrom H [] = H
+historyFrom H (c ∷ cs) = historyFrom (note H c) cs
+
+-- Call lists, what a list of calls brings when it is run from the fresh schedule
+abbrev pub historyOf : List Call → History
+historyOf cs = historyFrom noHistory (acceptedCalls (pad fresh) cs)

@@ -1,0 +1,53 @@
+-- Frames and image, the image: 2,265 bytes for a schedule, and back.
+use Prim.Native.Nat.{ℕ, zero, suc, _+_}
+use mathlib.Core.Bool.{Bool, true, _&&_}
+use mathlib.Core.List.{List, _++_}
+use lib.Dec.{leb, eqb}
+use lib.ListN.{length}
+use Rattle.rules.specs.declared.Program.{Program}
+use Rattle.rules.specs.declared.Schedule.{Schedule}
+use Rattle.rules.specs.Records.{mostEvents}
+use Rattle.rules.specs.Bytes.{big, read, flat, many, flag, flagAt, entryBytes, entryAt}
+use Rattle.rules.specs.Sound.{sound}
+
+-- bytes of an event entry
+abbrev pub entrySize : ℕ
+entrySize = 46
+
+-- bytes of an image: 8 + 1 + 8 * 6 + 48 * 46
+abbrev pub imageSize : ℕ
+imageSize = 2265
+
+-- Frames and image, a program entry: added, primacy, defaults
+unfoldable pub programBytes : Program → List ℕ
+programBytes p = flag (p .added) ++ (big 1 (p .primacy) ++ big 4 (p .defaults))
+
+unfoldable pub programFrom : ℕ → List ℕ → Program
+programFrom at l = record { added = flagAt at l; primacy = read 1 (at + 1) l; defaults = read 4 (at + 2) l }
+
+-- Frames and image, the image of a schedule: clock, count, programs, events
+unfoldable pub image : Schedule → List ℕ
+image s = big 8 (s .clock) ++ (big 1 (s .count) ++ (flat programBytes (s .programs) ++ flat entryBytes (s .entries)))
+
+-- the schedule in an image
+unfoldable pub loaded : List ℕ → Schedule
+loaded l =
+    record {
+      clock = read 8 0 l;
+      count = read 1 8 l;
+      programs = many programFrom 6 8 9 l;
+      entries = many entryAt entrySize mostEvents 57 l;
+    }
+
+-- whether n marks, k bytes from one to the next, are 0 or 1 each
+unfoldable pub marked : ℕ → ℕ → ℕ → List ℕ → Bool
+marked k zero at l = true
+marked k (suc n) at l = leb (read 1 at l) 1 && marked k n (at + k) l
+
+-- the length of an image, and its marks
+unfoldable pub formed : List ℕ → Bool
+formed l = eqb (length l) imageSize && (marked 6 8 9 l && marked entrySize mostEvents 102 l)
+
+-- Numbers given, 2: an image that keeps its length and every rule
+unfoldable pub imaged : List ℕ → Bool
+imaged l = formed l && sound (loaded l)

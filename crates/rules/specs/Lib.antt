@@ -1,0 +1,24 @@
+-- Document 01 as definitions, in its order. docs/READING.md maps each clause to its definition and its law.
+pub mod Lists
+pub mod Records
+pub mod Period
+pub mod Holding
+pub mod Rows
+pub mod Moments
+pub mod Bytes
+pub mod Sound
+pub mod Refusals
+pub mod Calls
+pub mod History
+pub mod Schedules
+pub mod Arrival
+pub mod Image
+pub mod Face
+pub mod Frames
+pub mod Printed
+pub mod Marks
+pub mod Table
+pub mod Edges
+pub mod Example
+pub mod Clauses
+pub mod Sample

@@ -1,0 +1,133 @@
+-- Bench marks T1 to T12 and document 01's worked example, as data.
+use Prim.Native.Nat.{ℕ, _*_}
+use mathlib.Core.Bool.{Bool, true, false, _&&_}
+use mathlib.Core.List.{List, [], _∷_, _++_, map}
+use lib.Dec.{eqb}
+use lib.ListN.{take, drop, replicate}
+use Rattle.rules.specs.declared.Event.{Event}
+use Rattle.rules.specs.declared.Period.{Period}
+use Rattle.rules.specs.declared.Schedule.{Schedule}
+use Rattle.rules.specs.Period.{periodOf}
+use Rattle.rules.specs.Rows.{Row}
+use Rattle.rules.specs.Bytes.{bytes}
+use Rattle.rules.specs.Calls.{Call, addProgram, deliver, setClock, ask, Value, nothing, code, count, holder, default, nobody, Outcome, call, counted}
+
+abbrev pub buffer : List ℕ
+buffer = replicate 136 0
+
+-- what a host sees of a call
+pub record Reply : Type 0 where
+  pub number : ℕ
+  pub value : Value
+  pub bytes : List ℕ
+
+abbrev pub replyOf : Outcome → Reply
+replyOf o = record { number = o .number; value = o .value; bytes = o .bytes }
+
+-- what a host sees of a list of calls
+unfoldable pub replies : Schedule → List Call → List Reply
+replies s [] = []
+replies s (c ∷ cs) = let o = call s c in replyOf o ∷ replies (o .state) cs
+
+-- an answer that is fixed: the number of a refusal (0 for none) and the code
+pub record Answered : Type 0 where
+  pub number : ℕ
+  pub code : ℕ
+
+-- a question, and the event that holds the control then
+pub record Question : Type 0 where
+  pub time : ℕ
+  pub control : ℕ
+  pub id : ℕ
+
+-- a case: events received at a clock; then what it fixes: the answer to each delivery, effective periods, the rows up to clock 6000, holders
+pub record Case : Type 0 where
+  pub received : ℕ
+  pub events : List Event
+  pub answers : List Answered
+  pub periods : List Period
+  pub rows : List Row
+  pub holders : List Question
+
+-- program 0 has primacy 0, program 1 primacy 1, neither a default; questions are put at their times
+abbrev pub asked : List Question → List Call
+asked [] = []
+asked (q ∷ qs) = setClock (q .time) buffer ∷ ask (q .control) ∷ asked qs
+
+abbrev pub callsOf : Case → List Call
+callsOf c =
+    addProgram 0 0 0 ∷ addProgram 1 1 0 ∷ setClock (c .received) []
+    ∷ (map deliver (c .events) ++ (asked (c .holders) ++ (setClock 6000 buffer ∷ [])))
+
+abbrev pub same : List ℕ → List ℕ → Bool
+same [] [] = true
+same [] (y ∷ ys) = false
+same (x ∷ xs) [] = false
+same (x ∷ xs) (y ∷ ys) = eqb x y && same xs ys
+
+abbrev pub isCode : Value → ℕ → Bool
+isCode nothing k = eqb k 0
+isCode (code n) k = eqb n k
+isCode (count n) k = false
+isCode (holder i) k = false
+isCode (default p) k = false
+isCode nobody k = false
+
+abbrev pub answersHold : List Answered → List Reply → Bool
+answersHold [] rs = true
+answersHold (a ∷ more) [] = false
+answersHold (a ∷ more) (r ∷ rs) = eqb (r .number) (a .number) && isCode (r .value) (a .code) && answersHold more rs
+
+abbrev pub periodsHold : ℕ → List Period → List Event → Bool
+periodsHold clock [] es = true
+periodsHold clock (p ∷ ps) [] = false
+periodsHold clock (p ∷ ps) (e ∷ es) =
+    eqb (periodOf e clock .start) (p .start) && eqb (periodOf e clock .end) (p .end) && periodsHold clock ps es
+
+-- the rows of all clock calls
+abbrev pub rowsIn : List Reply → List ℕ
+rowsIn [] = []
+rowsIn (r ∷ rs) = take (17 * counted (r .value)) (r .bytes) ++ rowsIn rs
+
+abbrev pub holderIds : Value → List ℕ
+holderIds nothing = []
+holderIds (code n) = []
+holderIds (count n) = []
+holderIds (holder i) = i ∷ []
+holderIds (default p) = []
+holderIds nobody = []
+
+-- the holders that the questions name
+abbrev pub holdersIn : List Reply → List ℕ
+holdersIn [] = []
+holdersIn (r ∷ rs) = holderIds (r .value) ++ holdersIn rs
+
+-- whether a case holds, of what `see` shows of a list of calls
+unfoldable pub caseHolds : (List Call → List Reply) → Case → Bool
+caseHolds see c =
+    let rs = see (callsOf c) in
+    answersHold (c .answers) (drop 3 rs)
+    && periodsHold (c .received) (c .periods) (c .events)
+    && same (rowsIn rs) (bytes (c .rows))
+    && same (holdersIn rs) (map (λ q. q .id) (c .holders))
+
+-- whether each case of a table does
+unfoldable pub allHold : (List Call → List Reply) → List Case → Bool
+allHold see [] = true
+allHold see (c ∷ cs) = caseHolds see c && allHold see cs
+
+-- Numbers given: a call after others, and its number, 0 if it is accepted
+pub record Edge : Type 0 where
+  pub before : List Call
+  pub last : Call
+  pub number : ℕ
+
+abbrev pub lastIs : ℕ → List Reply → Bool
+lastIs n [] = false
+lastIs n (r ∷ []) = eqb (r .number) n
+lastIs n (r ∷ s ∷ rs) = lastIs n (s ∷ rs)
+
+-- whether each edge is where the table has it
+unfoldable pub edgesHold : (List Call → List Reply) → List Edge → Bool
+edgesHold see [] = true
+edgesHold see (e ∷ es) = lastIs (e .number) (see (e .before ++ (e .last ∷ []))) && edgesHold see es

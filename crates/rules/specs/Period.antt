@@ -1,0 +1,29 @@
+-- Effective period.
+-- IEEE 2030.5 calls document 01's drawn start "Effective Start Time"; here, as in document 01, an effective start is never before receipt.
+use Prim.Native.Nat.{ℕ, _+_, _-_, _%_, max}
+use Rattle.rules.specs.declared.Event.{Event}
+use Rattle.rules.specs.declared.Period.{Period}
+
+-- Records, signed fields: two's complement on 16 bits, moved up by 32,768, so that 0 goes to 32,768 and the order is that of the signed numbers
+abbrev pub lift : ℕ → ℕ
+lift b = (b + 32768) % 65536
+
+-- n plus a signed 16-bit number, cut off at 0
+abbrev pub plus : ℕ → ℕ → ℕ
+plus n b = n + lift b - 32768
+
+-- Effective period, drawn start
+unfoldable pub drawnStart : Event → ℕ
+drawnStart e = plus (e .start) (e .«start_draw»)
+
+-- Effective period, effective end: counted from the drawn start, however late the event came
+unfoldable pub effectiveEnd : Event → ℕ
+effectiveEnd e = plus (drawnStart e + e .duration) (e .«duration_draw»)
+
+-- Effective period, effective start: of an event that was first accepted at the receipt clock
+unfoldable pub effectiveStart : Event → ℕ → ℕ
+effectiveStart e receipt = max (drawnStart e) (receipt + 1)
+
+-- Effective period, period: the moments from `start` on and before `end`
+abbrev pub periodOf : Event → ℕ → Period
+periodOf e receipt = record { start = effectiveStart e receipt; end = effectiveEnd e }

@@ -1,0 +1,109 @@
+-- Frames and image, the program `schedule`: what it writes for what it reads.
+use Prim.Native.Nat.{ℕ, zero, suc, _+_, _*_, _/_, _%_}
+use mathlib.Core.Bool.{Bool, true, false, cond}
+use mathlib.Core.List.{List, [], _∷_, _++_}
+use lib.Dec.{ltb, eqb}
+use lib.ListN.{replicate}
+use Rattle.rules.specs.declared.Frame.{Frame}
+use Rattle.rules.specs.declared.Frame.the-variants as frame
+use Rattle.rules.specs.declared.Line.{Line}
+use Rattle.rules.specs.declared.Line.the-variants.{Good, Bad}
+use Rattle.rules.specs.declared.Schedule.{Schedule}
+use Rattle.rules.specs.Records.{idOf, fresh, pad}
+use Rattle.rules.specs.Bytes.{read}
+use Rattle.rules.specs.Calls.{Value, nothing, code, count, holder, default, nobody, Outcome, call, counted}
+use Rattle.rules.specs.Frames.{lineOf, frameCall}
+
+-- the lines of a text: a line feed ends one, and the last may lack it
+unfoldable pub linesOf : List ℕ → List (List ℕ)
+linesOf [] = []
+linesOf (b ∷ bs) = cond (eqb b 10) ([] ∷ linesOf bs) (first (linesOf bs))
+  where
+    first : List (List ℕ) → List (List ℕ)
+    first [] = (b ∷ []) ∷ []
+    first (l ∷ ls) = (b ∷ l) ∷ ls
+
+-- the last n decimal digits of a number, no zero in front
+unfoldable pub decimal : ℕ → ℕ → List ℕ
+decimal zero x = []
+decimal (suc n) x = cond (ltb x 10) ((48 + x) ∷ []) (decimal n (x / 10) ++ ((48 + x % 10) ∷ []))
+
+-- a number below 2 ^ 64 has at most 20
+abbrev pub digits : ℕ → List ℕ
+digits x = decimal 20 x
+
+abbrev pub space : List ℕ
+space = 32 ∷ []
+
+abbrev pub lineFeed : List ℕ
+lineFeed = 10 ∷ []
+
+-- refused n
+abbrev pub refusedText : ℕ → List ℕ
+refusedText n = 114 ∷ 101 ∷ 102 ∷ 117 ∷ 115 ∷ 101 ∷ 100 ∷ (space ++ (digits n ++ lineFeed))
+
+-- three numbers: a clock or a time, an id, a code
+abbrev pub threeText : ℕ → ℕ → ℕ → List ℕ
+threeText t i k = digits t ++ (space ++ (digits i ++ (space ++ (digits k ++ lineFeed))))
+
+-- a call that names an id and gives a code; nothing for code 0
+abbrev pub codeText : ℕ → ℕ → Value → List ℕ
+codeText clock i nothing = []
+codeText clock i (code k) = cond (eqb k 0) [] (threeText clock i k)
+codeText clock i (count n) = []
+codeText clock i (holder h) = []
+codeText clock i (default p) = []
+codeText clock i nobody = []
+
+-- the rows in a buffer
+unfoldable pub rowsText : ℕ → ℕ → List ℕ → List ℕ
+rowsText zero at b = []
+rowsText (suc n) at b = threeText (read 8 at b) (read 8 (at + 8) b) (read 1 (at + 16) b) ++ rowsText n (at + 17) b
+
+-- a question: control event id, control default program, or control none
+abbrev pub askText : ℕ → Value → List ℕ
+askText c nothing = []
+askText c (code k) = []
+askText c (count n) = []
+askText c (holder i) = digits c ++ (space ++ (101 ∷ 118 ∷ 101 ∷ 110 ∷ 116 ∷ (space ++ (digits i ++ lineFeed))))
+askText c (default p) = digits c ++ (space ++ (100 ∷ 101 ∷ 102 ∷ 97 ∷ 117 ∷ 108 ∷ 116 ∷ (space ++ (digits p ++ lineFeed))))
+askText c nobody = digits c ++ (space ++ (110 ∷ 111 ∷ 110 ∷ 101 ∷ lineFeed))
+
+-- an accepted frame
+abbrev pub frameText : ℕ → Frame → Outcome → List ℕ
+frameText clock (frame.Event e) o = codeText clock (idOf e) (o .value)
+frameText clock (frame.Cancel i) o = codeText clock (i .value) (o .value)
+frameText clock (frame.Clock t) o = rowsText (counted (o .value)) 0 (o .bytes)
+frameText clock (frame.Program n p d) o = []
+frameText clock (frame.Ask c) o = askText c (o .value)
+
+-- a buffer that the rows of every clock call fit: 96 of 17 bytes
+abbrev pub room : List ℕ
+room = replicate 1632 0
+
+-- what a line leaves and writes
+pub record Told : Type 0 where
+  pub state : Schedule
+  pub text : List ℕ
+
+unfoldable pub tellFrame : Schedule → Frame → Told
+tellFrame s f =
+    let o = call s (frameCall f room) in
+    record { state = o .state; text = cond (eqb (o .number) 0) (frameText (s .clock) f o) (refusedText (o .number)) }
+
+abbrev pub tellLine : Schedule → Line → Told
+tellLine s (Good f) = tellFrame s f
+tellLine s Bad = record { state = s; text = refusedText 1 }
+
+-- one line
+unfoldable pub tell : Schedule → List ℕ → Told
+tell s l = tellLine s (lineOf l)
+
+-- lines one after the other
+unfoldable pub tellAll : Schedule → List (List ℕ) → List ℕ
+tellAll s [] = []
+tellAll s (l ∷ ls) = let o = tell s l in o .text ++ tellAll (o .state) ls
+
+-- Frames and image, the program: from what it reads to what it writes
+abbrev pub output : List ℕ → List ℕ
+output input = tellAll (pad fresh) (linesOf input)

@@ -1,0 +1,90 @@
+-- Records: limits, ids, primacies, masks, and the schedule as lists. A comment names the section of document 01 and the term that it renders.
+use Prim.Native.Nat.{ℕ, _-_, _/_, _%_, _^_}
+use mathlib.Core.Bool.{Bool, false, _&&_, _||_}
+use mathlib.Core.List.{List, [], _++_}
+use lib.Bits.{bitAnd, bitOr, bitXor}
+use lib.Dec.{leb, eqb}
+use lib.ListN.{length, take, getD, replicate}
+use Rattle.rules.specs.declared.Program.{Program}
+use Rattle.rules.specs.declared.Event.{Event}
+use Rattle.rules.specs.declared.Entry.{Entry}
+use Rattle.rules.specs.declared.Schedule.{Schedule}
+
+-- Records, limit on events: how many are held at the most
+abbrev pub mostEvents : ℕ
+mostEvents = 48
+
+-- Records, limit of the clock: its greatest reading
+abbrev pub lastClock : ℕ
+lastClock = 9000000000
+
+-- Records, id: the handle as one number
+abbrev pub idOf : Event → ℕ
+idOf e = e .id .value
+
+-- Records, primacy: one that may be used; any other is reserved
+unfoldable pub usable : ℕ → Bool
+usable primacy = leb primacy 2 || (leb 65 primacy && leb primacy 191)
+
+-- Records, mask: whether control c is in the mask m
+unfoldable pub has : ℕ → ℕ → Bool
+has m c = eqb (m / 2 ^ c % 2) 1
+
+-- the controls of a that are not in b
+unfoldable pub cut : ℕ → ℕ → ℕ
+cut a b = bitXor a (bitAnd a b)
+
+-- the controls of a and of b
+unfoldable pub join : ℕ → ℕ → ℕ
+join a b = bitOr a b
+
+-- a program place that is not in use
+abbrev pub noProgram : Program
+noProgram = record { added = false; primacy = 0; defaults = 0 }
+
+abbrev pub noEvent : Event
+noEvent =
+    record {
+      id = record { value = 0 };
+      program = 0;
+      controls = 0;
+      created = 0;
+      start = 0;
+      duration = 0;
+      «randomize_start» = 0;
+      «randomize_duration» = 0;
+      «start_draw» = 0;
+      «duration_draw» = 0;
+    }
+
+-- an event place that is not in use
+abbrev pub noEntry : Entry
+noEntry = record { event = noEvent; begins = 0; held = 0; cancelled = false }
+
+-- a schedule with its held events as a list, by ascending id
+pub record State : Type 0 where
+  pub clock : ℕ
+  pub programs : List Program
+  pub entries : List Entry
+
+-- the program under a number
+abbrev pub programAt : List Program → ℕ → Program
+programAt ps n = getD ps n noProgram
+
+-- Records, fresh schedule
+abbrev pub fresh : State
+fresh = record { clock = 0; programs = replicate 8 noProgram; entries = [] }
+
+-- what a schedule by value says: its first `count` entries are held
+abbrev pub view : Schedule → State
+view s = record { clock = s .clock; programs = s .programs; entries = take (s .count) (s .entries) }
+
+-- the schedule by value that says it, its unused entries zero
+abbrev pub pad : State → Schedule
+pad s =
+    record {
+      clock = s .clock;
+      count = length (s .entries);
+      programs = s .programs;
+      entries = s .entries ++ replicate (mostEvents - length (s .entries)) noEntry;
+    }

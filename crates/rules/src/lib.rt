@@ -1,0 +1,182 @@
+// Document 01 in checkable form: its records, its definitions (specs/), and what is proved of them (proofs/).
+// The functions below the records do nothing: each carries a theorem as its promise, so that a reader of the code meets it.
+ghost use mathlib.Core.Path.{_≡_};
+ghost use mathlib.Core.Bool.{true};
+ghost use Rattle.rules.specs.Records.{fresh, pad};
+ghost use Rattle.rules.specs.Sound.{sound};
+ghost use Rattle.rules.specs.Image.{image, loaded, imaged};
+ghost use Rattle.rules.specs.Printed.{output};
+ghost use Rattle.rules.specs.Clauses.{Clauses, ImageKept};
+ghost use Rattle.rules.specs.Arrival.{ArrivalOrder};
+ghost use Rattle.rules.specs.Sample.{Sample};
+ghost use Rattle.rules.specs.Marks.{allHold, edgesHold, replies};
+ghost use Rattle.rules.specs.Table.{table};
+ghost use Rattle.rules.specs.Edges.{edges};
+ghost use Rattle.rules.specs.Example.{exampleInput, exampleOutput};
+
+// Records. An id: the host's handle of an event. Definitions read it as one number.
+pub struct Id {
+    pub value: u64,
+}
+
+// Records. A program in its place, which is its number.
+pub struct Program {
+    pub added: bool,
+    pub primacy: u8,
+    pub defaults: u32,
+}
+
+// Records. An event, its 33 field bytes.
+pub struct Event {
+    pub id: Id,
+    pub program: u8,
+    pub controls: u32,
+    pub created: u32,
+    pub start: u32,
+    pub duration: u32,
+    // 16 bits of two's complement each.
+    pub randomize_start: u16,
+    pub randomize_duration: u16,
+    pub start_draw: u16,
+    pub duration_draw: u16,
+}
+
+// Effective period. The times that are worked out for an event.
+pub struct Period {
+    pub start: u64,
+    pub end: u64,
+}
+
+// Frames and image. An event that is held: its effective start, the controls that it holds now, whether it is cancelled.
+pub struct Entry {
+    pub event: Event,
+    pub begins: u64,
+    pub held: u32,
+    pub cancelled: bool,
+}
+
+// Calls. What a listing gives for each held event.
+pub struct Record {
+    pub entry: Entry,
+}
+
+// Records. The state that goes into each call and comes out of it.
+pub struct Schedule {
+    pub clock: u64,
+    pub count: usize,
+    pub programs: [Program; 8],
+    pub entries: [Entry; 48],
+}
+
+// What a call answers.
+pub enum Answer {
+    Refused(u8),
+    Code(u8),
+    Count(usize),
+    Holder(Id),
+    Default(u8),
+    Nobody,
+}
+
+// A frame of a line.
+pub enum Frame {
+    Event(Event),
+    Cancel(Id),
+    Clock(u64),
+    Program(u8, u8, u32),
+    Ask(u8),
+}
+
+pub enum Line {
+    Good(Frame),
+    Bad,
+}
+
+impl Schedule {
+    // Records. How many programs and events a schedule has places for, and the greatest reading of its clock.
+    pub const PROGRAMS: usize = 8;
+
+    pub const EVENTS: usize = 48;
+
+    pub const LAST_CLOCK: u64 = 9_000_000_000;
+
+    // Records. The fresh schedule: clock 0, no program, no event.
+    pub fn fresh() -> Schedule
+        ensures { λ r. ⌜ r ≡ pad fresh ⌝ }
+    {
+        let id = Id { value: 0 };
+        let event = Event {
+            id,
+            program: 0,
+            controls: 0,
+            created: 0,
+            start: 0,
+            duration: 0,
+            randomize_start: 0,
+            randomize_duration: 0,
+            start_draw: 0,
+            duration_draw: 0,
+        };
+        let entry = Entry {
+            event,
+            begins: 0,
+            held: 0,
+            cancelled: false,
+        };
+        let program = Program {
+            added: false,
+            primacy: 0,
+            defaults: 0,
+        };
+        Schedule {
+            clock: 0,
+            count: 0,
+            programs: [program; Schedule::PROGRAMS],
+            entries: [entry; Schedule::EVENTS],
+        }
+    }
+}
+
+// Bench marks T1 to T12: every line of the table holds, of the calls from the fresh schedule.
+pub fn bench_marks()
+    ensures { λ _. ⌜ allHold (replies (pad fresh)) table ≡ true ⌝ }
+{}
+
+// Numbers given: each number is given on the one side of its edge and not on the other.
+pub fn number_edges()
+    ensures { λ _. ⌜ edgesHold (replies (pad fresh)) edges ≡ true ⌝ }
+{}
+
+// Frames and image. The worked example: what the program writes for the lines that it reads.
+pub fn worked_example()
+    ensures { λ _. ⌜ output exampleInput ≡ exampleOutput ⌝ }
+{}
+
+// Document 01's clauses, one by one, of the definitions.
+pub fn clauses()
+    ensures { λ _. ⌜ Clauses ⌝ }
+{}
+
+// Demand 3: the order of arrival does not count. Any two lists of calls that bring the same programs, events and cancellations to the same last
+// reading give the same rows, listings and answers, and all of them are the schedule's; after no call does a control have two holders.
+pub fn arrival_order()
+    ensures { λ _. ⌜ ArrivalOrder ⌝ }
+{}
+
+// Demand 3 is not empty: two different lists that meet its premise, with the rows of both.
+pub fn arrival_sample()
+    ensures { λ _. ⌜ Sample ⌝ }
+{}
+
+// Frames and image. The image of a sound schedule is accepted, and gives the schedule back.
+pub fn image_and_back(s: Schedule)
+    ensures { λ _. ⌜ (sound s ≡ true → ImageKept s) ⌝ }
+{}
+
+// Frames and image. An accepted image is the image of its schedule.
+pub fn load_and_back(b: &[u8])
+    ensures { λ _. ⌜ (imaged (now (b .entry)) ≡ true → image (loaded (now (b .entry))) ≡ now (b .entry)) ⌝ }
+{
+    // For the proof alone: where a function calls something, it is known that each element of `b` is a byte.
+    Schedule::fresh();
+}
