@@ -3,6 +3,7 @@
 use Prim.Native.Nat.{ℕ, _+_, _-_, _%_, max}
 use Rattle.rules.specs.declared.Event.{Event}
 use Rattle.rules.specs.declared.Period.{Period}
+use Rattle.rules.specs.declared.Dated.{Dated}
 
 -- Records, signed fields: two's complement on 16 bits, moved up by 32,768, so that 0 goes to 32,768 and the order is that of the signed numbers
 abbrev pub lift : ℕ → ℕ
@@ -27,3 +28,7 @@ effectiveStart e receipt = max (drawnStart e) (receipt + 1)
 -- Effective period, period: the moments from `start` on and before `end`
 abbrev pub periodOf : Event → ℕ → Period
 periodOf e receipt = record { start = effectiveStart e receipt; end = effectiveEnd e }
+
+-- Form by location, effective end: a time, with the record handed back
+abbrev pub dated : ℕ → Event → Dated
+dated time e = record { time = time; event = e }

@@ -1,10 +1,12 @@
 -- Records: limits, ids, primacies, masks, and the schedule as lists. A comment names the section of document 01 and the term that it renders.
 use Prim.Native.Nat.{ℕ, _-_, _/_, _%_, _^_}
-use mathlib.Core.Bool.{Bool, false, _&&_, _||_}
+use mathlib.Core.Bool.{Bool, false, cond, _&&_, _||_}
 use mathlib.Core.List.{List, [], _++_}
 use lib.Bits.{bitAnd, bitOr, bitXor}
 use lib.Dec.{leb, eqb}
 use lib.ListN.{length, take, getD, replicate}
+use Rattle.rules.specs.declared.Primacy.{Primacy}
+use Rattle.rules.specs.declared.Primacy.the-variants.{Usable, Reserved}
 use Rattle.rules.specs.declared.Program.{Program}
 use Rattle.rules.specs.declared.Event.{Event}
 use Rattle.rules.specs.declared.Entry.{Entry}
@@ -25,6 +27,10 @@ idOf e = e .id .value
 -- Records, primacy: one that may be used; any other is reserved
 unfoldable pub usable : ℕ → Bool
 usable primacy = leb primacy 2 || (leb 65 primacy && leb primacy 191)
+
+-- the same as an enum
+abbrev pub primacyIs : ℕ → Primacy
+primacyIs primacy = cond (usable primacy) Usable Reserved
 
 -- Records, mask: whether control c is in the mask m
 unfoldable pub has : ℕ → ℕ → Bool

@@ -14,6 +14,8 @@ ghost use Rattle.rules.specs.Table.{table};
 ghost use Rattle.rules.specs.Edges.{edges};
 ghost use Rattle.rules.specs.Example.{exampleInput, exampleOutput};
 
+mod times;
+
 // Records. An id: the host's handle of an event. Definitions read it as one number.
 pub struct Id {
     pub value: u64,
@@ -24,6 +26,12 @@ pub struct Program {
     pub added: bool,
     pub primacy: u8,
     pub defaults: u32,
+}
+
+// Records. Whether a primacy may be used.
+pub enum Primacy {
+    Usable,
+    Reserved,
 }
 
 // Records. An event, its 33 field bytes.
@@ -45,6 +53,12 @@ pub struct Event {
 pub struct Period {
     pub start: u64,
     pub end: u64,
+}
+
+// A time that was worked out, with the record handed back.
+pub struct Dated {
+    pub time: u64,
+    pub event: Event,
 }
 
 // Frames and image. An event that is held: its effective start, the controls that it holds now, whether it is cancelled.

@@ -1,0 +1,172 @@
+// Events by value: ids compared, times worked out, fields checked.
+ghost use mathlib.Core.Path.{_≡_};
+ghost use Prim.Native.Nat.{ℕ, _+_, _<_, _^_, min, max};
+ghost use lib.Dec.{eqb, ltb};
+ghost use mathlib.Core.Bool.{_&&_, _||_, not};
+ghost use Rattle.rules.specs.Records.{primacyIs, lastClock};
+ghost use Rattle.rules.specs.Period.{lift, plus, drawnStart, effectiveEnd, effectiveStart, periodOf, dated};
+ghost use Rattle.rules.specs.Sound.{outside, drawn, outOfRange, malformed};
+use crate::Dated;
+use crate::Event;
+use crate::Id;
+use crate::Period;
+use crate::Primacy;
+use crate::Schedule;
+
+impl Id {
+    pub fn equals(self, other: Id) -> bool
+        ensures { λ r. ⌜ r ≡ eqb (self .value) (other .value) ⌝ }
+    {
+        self.value == other.value
+    }
+
+    pub fn less(self, other: Id) -> bool
+        ensures { λ r. ⌜ r ≡ ltb (self .value) (other .value) ⌝ }
+    {
+        self.value < other.value
+    }
+}
+
+impl Primacy {
+    // Records, primacy: the ranges that may be used.
+    pub fn of(primacy: u8) -> Primacy
+        ensures { λ r. ⌜ r ≡ primacyIs primacy ⌝ }
+    {
+        match primacy {
+            0..=2 | 65..=191 => Primacy::Usable,
+            _ => Primacy::Reserved,
+        }
+    }
+}
+
+// 16 bits of two's complement, moved up by 32,768.
+pub(crate) fn lifted(b: u16) -> u64
+    ensures { λ r. ⌜ r ≡ lift b ⌝ }
+{
+    (b as u64 + 32768) % 65536
+}
+
+// n plus a signed number, cut off at 0.
+pub(crate) fn moved(n: u64, b: u16) -> u64
+    requires { ⌜ n < 2 ^ 40 ⌝ }
+    ensures { λ r. ⌜ r ≡ plus n b ⌝ }
+{
+    let sum = n + lifted(b);
+    if sum < 32768 {
+        return 0;
+    }
+    sum - 32768
+}
+
+pub(crate) fn later(a: u64, b: u64) -> u64
+    ensures { λ r. ⌜ r ≡ max a b ⌝ }
+{
+    if a < b {
+        return b;
+    }
+    a
+}
+
+pub(crate) fn earlier(a: u64, b: u64) -> u64
+    ensures { λ r. ⌜ r ≡ min a b ⌝ }
+{
+    if a < b {
+        return a;
+    }
+    b
+}
+
+// Tests joined: both, or either of two.
+pub(crate) fn both(a: bool, b: bool) -> bool
+    ensures { λ r. ⌜ r ≡ a && b ⌝ }
+{
+    if a {
+        return b;
+    }
+    false
+}
+
+pub(crate) fn either(a: bool, b: bool) -> bool
+    ensures { λ r. ⌜ r ≡ a || b ⌝ }
+{
+    if a {
+        return true;
+    }
+    b
+}
+
+// Numbers given, 7: a randomisation beyond an hour either way.
+pub(crate) fn is_outside(r: u16) -> bool
+    ensures { λ x. ⌜ x ≡ outside r ⌝ }
+{
+    let y = lifted(r);
+    either(y < 32768 - 3600, 32768 + 3600 < y)
+}
+
+// Effective period, draw: between 0 and its randomisation.
+pub(crate) fn is_drawn(r: u16, d: u16) -> bool
+    ensures { λ x. ⌜ x ≡ drawn r d ⌝ }
+{
+    let y = lifted(r);
+    let z = lifted(d);
+    both(earlier(y, 32768) <= z, z <= later(y, 32768))
+}
+
+// Numbers given, 7: the conditions on single fields.
+pub(crate) fn is_out_of_range(e: Event) -> bool
+    ensures { λ x. ⌜ x ≡ outOfRange e ⌝ }
+{
+    let fields = either(either(e.controls == 0, e.start < 3600), e.duration == 0);
+    let randomisations = either(
+        either(fields, is_outside(e.randomize_start)),
+        is_outside(e.randomize_duration),
+    );
+    let start = either(randomisations, !is_drawn(e.randomize_start, e.start_draw));
+    either(start, !is_drawn(e.randomize_duration, e.duration_draw))
+}
+
+impl Event {
+    // Numbers given, 7: whether a field or a draw is outside its range, or the drawn duration below 1.
+    pub fn is_malformed(self) -> bool
+        ensures { λ r. ⌜ r ≡ malformed self ⌝ }
+    {
+        either(
+            is_out_of_range(self),
+            self.duration as u64 + lifted(self.duration_draw) < 32768 + 1,
+        )
+    }
+
+    // Effective period, drawn start.
+    pub fn drawn_start(self) -> Dated
+        ensures { λ r. ⌜ r ≡ dated (drawnStart self) self ⌝ }
+    {
+        Dated {
+            time: moved(self.start as u64, self.start_draw),
+            event: self,
+        }
+    }
+
+    // Effective period, effective end: from the drawn start.
+    pub fn effective_end(self) -> Dated
+        ensures { λ r. ⌜ r ≡ dated (effectiveEnd self) self ⌝ }
+    {
+        let start = moved(self.start as u64, self.start_draw);
+        Dated {
+            time: moved(start + self.duration as u64, self.duration_draw),
+            event: self,
+        }
+    }
+
+    // Effective period, the whole of it, of an event that is first accepted at a receipt clock. That is at most the last reading.
+    pub fn period(self, receipt: u64) -> Period
+        ensures { λ r. ⌜ r ≡ periodOf self (min receipt lastClock) ⌝ }
+    {
+        let start = self.drawn_start();
+        let end = self.effective_end();
+        let clock = earlier(receipt, Schedule::LAST_CLOCK);
+        Period {
+            start: later(start.time, clock + 1),
+            end: end.time,
+        }
+    }
+}
