@@ -191,7 +191,7 @@ same-event a b e =
       «duration_draw» = eqb-true (a .«duration_draw») (b .«duration_draw») (r9 .1) i;
     }
 
-true-unused : (h : Entry) → unused h ≡ true → h ≡ noEntry
+pub true-unused : (h : Entry) → unused h ≡ true → h ≡ noEntry
 unfolding unused
 true-unused h e =
     let r1 = each-true (sameEvent (h .event) noEvent) _ e in

@@ -2,7 +2,7 @@
 // The functions below the records do nothing: each carries a theorem as its promise, so that a reader of the code meets it.
 ghost use mathlib.Core.Path.{_≡_};
 ghost use mathlib.Core.Bool.{true};
-ghost use Rattle.rules.specs.Records.{fresh, pad};
+ghost use Rattle.rules.specs.Records.{noEvent, noEntry, fresh, pad};
 ghost use Rattle.rules.specs.Sound.{sound};
 ghost use Rattle.rules.specs.Image.{image, loaded, imaged};
 ghost use Rattle.rules.specs.Printed.{output};
@@ -14,6 +14,7 @@ ghost use Rattle.rules.specs.Table.{table};
 ghost use Rattle.rules.specs.Edges.{edges};
 ghost use Rattle.rules.specs.Example.{exampleInput, exampleOutput};
 
+pub mod logic;
 mod times;
 
 // Records. An id: the host's handle of an event. Definitions read it as one number.
@@ -106,6 +107,40 @@ pub enum Line {
     Bad,
 }
 
+impl Event {
+    // All fields zero.
+    pub fn none() -> Event
+        ensures { λ r. ⌜ r ≡ noEvent ⌝ }
+    {
+        Event {
+            id: Id { value: 0 },
+            program: 0,
+            controls: 0,
+            created: 0,
+            start: 0,
+            duration: 0,
+            randomize_start: 0,
+            randomize_duration: 0,
+            start_draw: 0,
+            duration_draw: 0,
+        }
+    }
+}
+
+impl Entry {
+    // A place that is not in use.
+    pub fn none() -> Entry
+        ensures { λ r. ⌜ r ≡ noEntry ⌝ }
+    {
+        Entry {
+            event: Event::none(),
+            begins: 0,
+            held: 0,
+            cancelled: false,
+        }
+    }
+}
+
 impl Schedule {
     // Records. How many programs and events a schedule has places for, and the greatest reading of its clock.
     pub const PROGRAMS: usize = 8;
@@ -118,25 +153,7 @@ impl Schedule {
     pub fn fresh() -> Schedule
         ensures { λ r. ⌜ r ≡ pad fresh ⌝ }
     {
-        let id = Id { value: 0 };
-        let event = Event {
-            id,
-            program: 0,
-            controls: 0,
-            created: 0,
-            start: 0,
-            duration: 0,
-            randomize_start: 0,
-            randomize_duration: 0,
-            start_draw: 0,
-            duration_draw: 0,
-        };
-        let entry = Entry {
-            event,
-            begins: 0,
-            held: 0,
-            cancelled: false,
-        };
+        let entry = Entry::none();
         let program = Program {
             added: false,
             primacy: 0,

@@ -2,7 +2,7 @@
 ghost use mathlib.Core.Path.{_≡_};
 ghost use Prim.Native.Nat.{ℕ, _+_, _<_, _^_, min, max};
 ghost use lib.Dec.{eqb, ltb};
-ghost use mathlib.Core.Bool.{_&&_, _||_, not};
+ghost use mathlib.Core.Bool.{not};
 ghost use Rattle.rules.specs.Records.{primacyIs, lastClock};
 ghost use Rattle.rules.specs.Period.{lift, plus, drawnStart, effectiveEnd, effectiveStart, periodOf, dated};
 ghost use Rattle.rules.specs.Sound.{outside, drawn, outOfRange, malformed};
@@ -12,6 +12,7 @@ use crate::Id;
 use crate::Period;
 use crate::Primacy;
 use crate::Schedule;
+use crate::logic;
 
 impl Id {
     pub fn equals(self, other: Id) -> bool
@@ -76,31 +77,12 @@ pub(crate) fn earlier(a: u64, b: u64) -> u64
     b
 }
 
-// Tests joined: both, or either of two.
-pub(crate) fn both(a: bool, b: bool) -> bool
-    ensures { λ r. ⌜ r ≡ a && b ⌝ }
-{
-    if a {
-        return b;
-    }
-    false
-}
-
-pub(crate) fn either(a: bool, b: bool) -> bool
-    ensures { λ r. ⌜ r ≡ a || b ⌝ }
-{
-    if a {
-        return true;
-    }
-    b
-}
-
 // Numbers given, 7: a randomisation beyond an hour either way.
 pub(crate) fn is_outside(r: u16) -> bool
     ensures { λ x. ⌜ x ≡ outside r ⌝ }
 {
     let y = lifted(r);
-    either(y < 32768 - 3600, 32768 + 3600 < y)
+    logic::either(y < 32768 - 3600, 32768 + 3600 < y)
 }
 
 // Effective period, draw: between 0 and its randomisation.
@@ -109,20 +91,23 @@ pub(crate) fn is_drawn(r: u16, d: u16) -> bool
 {
     let y = lifted(r);
     let z = lifted(d);
-    both(earlier(y, 32768) <= z, z <= later(y, 32768))
+    logic::both(earlier(y, 32768) <= z, z <= later(y, 32768))
 }
 
 // Numbers given, 7: the conditions on single fields.
 pub(crate) fn is_out_of_range(e: Event) -> bool
     ensures { λ x. ⌜ x ≡ outOfRange e ⌝ }
 {
-    let fields = either(either(e.controls == 0, e.start < 3600), e.duration == 0);
-    let randomisations = either(
-        either(fields, is_outside(e.randomize_start)),
+    let fields = logic::either(
+        logic::either(e.controls == 0, e.start < 3600),
+        e.duration == 0,
+    );
+    let randomisations = logic::either(
+        logic::either(fields, is_outside(e.randomize_start)),
         is_outside(e.randomize_duration),
     );
-    let start = either(randomisations, !is_drawn(e.randomize_start, e.start_draw));
-    either(start, !is_drawn(e.randomize_duration, e.duration_draw))
+    let start = logic::either(randomisations, !is_drawn(e.randomize_start, e.start_draw));
+    logic::either(start, !is_drawn(e.randomize_duration, e.duration_draw))
 }
 
 impl Event {
@@ -130,7 +115,7 @@ impl Event {
     pub fn is_malformed(self) -> bool
         ensures { λ r. ⌜ r ≡ malformed self ⌝ }
     {
-        either(
+        logic::either(
             is_out_of_range(self),
             self.duration as u64 + lifted(self.duration_draw) < 32768 + 1,
         )

@@ -1,0 +1,207 @@
+-- The loop over moments: what was passed and what is left make up the whole, and the columns say where the entries stand.
+use mathlib.Core.Path.{_≡_, refl, sym, ap, ap₂, _∙_, subst}
+use mathlib.Core.Logic.{inl, inr}
+use Prim.Native.Nat.{ℕ, zero, suc, _+_, _-_, _*_, _<_, _≤_}
+use mathlib.Core.Bool.{Bool, true, false, cond}
+use mathlib.Core.List.{List, [], _∷_, _++_, map, append-assoc, append-nil}
+use native.Mathlib.Omega.{arith}
+use lib.Dec.{ltb}
+use lib.ListN.{length, take, getD, length-append, length-take}
+use lib.Seq.{getD-take, take-suc, take-length}
+use borrow.Author.Tests.{lt-ltb}
+use Rattle.rules.specs.declared.Entry.{Entry}
+use Rattle.rules.specs.declared.Program.{Program}
+use Rattle.rules.specs.declared.Schedule.{Schedule}
+use Rattle.rules.specs.Lists.{keep, In, All, Pairwise}
+use Rattle.rules.specs.Records.{State, idOf, noEntry, lastClock, view, pad}
+use Rattle.rules.specs.Holding.{heldAt, holdingAt, withHolding, endOf}
+use Rattle.rules.specs.Rows.{Row, codeAt, rowsAt}
+use Rattle.rules.specs.Moments.{Moved, lasts, advance, passed}
+use Rattle.rules.specs.Bytes.{bytes}
+use Rattle.rules.specs.Sound.{sound}
+use Rattle.rules.specs.Calls.{entryId}
+use Rattle.rules.proofs.ListLaws.{keep-all, asc-map}
+use Rattle.rules.proofs.SoundState.{Sound, ById, sound-view, rules}
+use Rattle.rules.proofs.Bound.{few-rows}
+use Rattle.rules.proofs.Jump.{onward, Idle}
+use Rattle.calls.specs.declared.columns.Columns.{Columns}
+use Rattle.calls.specs.Columns.{Claims, Codes, nextOf, momentRows, Written}
+use Rattle.calls.specs.Held.{Columned, Long}
+use Rattle.calls.specs.Settled.{claimants, settled}
+use Rattle.calls.specs.Finished.{lastingOf, finished}
+use Rattle.calls.specs.Advanced.{Advanced}
+use Rattle.calls.proofs.Puts.{no-row, rows-then}
+use Rattle.calls.proofs.Reached.{held-length}
+use Rattle.calls.proofs.Undropped.{settledAt, stateIn, quiet-to, moment-then, sound-moment}
+use Rattle.calls.proofs.Moment.{Alike, Now, front-is, keep-append, is-end, is-begins, of-event, kept-are, codes-are, rows-are, now-next, next-after, next-idle}
+
+-- after the moments up to a clock
+pub record Going (s : Schedule) (to n : ℕ) (c : Columns) (old rows held : List ℕ) (clock at : ℕ) : Type 0 where
+  pub good : sound s ≡ true
+  pub last : to ≤ lastClock
+  pub count : n ≡ s .count
+  pub columned : Columned (s .programs) (s .entries) n c
+  pub long : Long c
+  pub size : length old ≡ 1632
+  pub order : clock ≤ to
+  -- the entries as they stand, and the rows so far
+  pub us : List Entry
+  pub done : List Row
+  pub now : Now (s .entries) us n held
+  pub state : Sound (stateIn (s .programs) us clock)
+  pub split : passed (view s) to ≡ onward (record { state = stateIn (s .programs) us clock; rows = done }) (advance (to - clock) (stateIn (s .programs) us clock))
+  pub written : Written old 0 rows at done
+
+-- before the first: nothing has ended
+pub start : (s : Schedule) (to : ℕ) (c : Columns) (old : List ℕ) → sound s ≡ true → s .clock ≤ to → to ≤ lastClock → length old ≡ 1632
+    → Columned (s .programs) (s .entries) (s .count) c → Long c → Going s to (s .count) c old old (c .held) (s .clock) 0
+start s to c old good h l size w long =
+    let us = view s .entries in
+    let all : keep (lasts (s .clock)) us ≡ us = keep-all (lasts (s .clock)) us (λ o m. lt-ltb (s .clock) (endOf o) (sound-view s good .entries o m .lasts)) in
+    let same : view s ≡ stateIn (s .programs) us (s .clock) = ap (λ hs. record { clock = s .clock; programs = s .programs; entries = hs }) (sym all) in
+    record {
+      good = good;
+      last = l;
+      count = refl;
+      columned = w;
+      long = long;
+      size = size;
+      order = h;
+      us = us;
+      done = [];
+      now = record {
+        size = held-length s good;
+        alike = λ k i. let e = getD-take (s .count) (s .entries) k noEntry i in record { event = ap (λ o. o .event) e; begins = ap (λ o. o .begins) e; cancelled = ap (λ o. o .cancelled) e };
+        held = λ k i. w .held k i ∙ sym (ap (λ o. o .held) (getD-take (s .count) (s .entries) k noEntry i));
+      };
+      state = subst Sound same (sound-view s good);
+      split = ap (λ v. advance (to - s .clock) v) same;
+      written = no-row old 0;
+    }
+
+module _ {s : Schedule} {to n : ℕ} {c : Columns} {old rows held : List ℕ} {clock at : ℕ} (g : Going s to n c old rows held clock at) where
+  abbrev ps : List Program
+  ps = s .programs
+
+  pub below : n ≤ 48
+  below = omega (arith, g .count, rules s (g .good) .count)
+
+  fits : (a : List ℕ) → length a ≡ 48 → n ≤ length a
+  fits a e = omega (arith, below)
+
+  -- the ids ascend
+  pub ids-ascend : Pairwise _<_ (take n (c .ids))
+  ids-ascend =
+      let e : take n (c .ids) ≡ map entryId (view s .entries) =
+      front-is entryId noEntry (view s .entries) (c .ids) n (held-length s (g .good) ∙ sym (g .count)) (fits (c .ids) (g .long .ids))
+      (λ k i. g .columned .ids k i ∙ sym (ap entryId (getD-take (s .count) (s .entries) k noEntry (omega (arith, g .count))))) in
+      subst (Pairwise _<_) (sym e) (asc-map ById _<_ entryId (λ x y b. b) (view s .entries) (sound-view s (g .good) .ids))
+
+  module _ (t : ℕ) (e : t ≡ nextOf clock (to + 1) n (c .begins) (c .ends)) where
+    pub after-now : (clock < t) × (t ≤ to + 1)
+    after-now = let a = next-after clock (to + 1) (c .begins) (c .ends) (omega (arith, g .order)) n in (omega (arith, a .later, e), omega (arith, a .limited, e))
+
+    still : All (Idle clock (t - suc clock)) (keep (lasts clock) (g .us))
+    still =
+        subst (λ u. All (Idle clock (u - suc clock)) (keep (lasts clock) (g .us))) (sym e)
+        (next-idle clock (to + 1) (c .begins) (c .ends) (omega (arith, g .order)) (g .us) n (g .now .size)
+        (is-begins ps (s .entries) (g .us) n c (g .columned) held (g .now) t) (is-end ps (s .entries) (g .us) n c (g .columned) held (g .now) t))
+
+    -- A moment up to the reading.
+
+    module _ (h : t ≤ to) (claims kept codes : List ℕ)
+        (p : Claims t n (c .stopped) (c .ends) (c .begins) (c .controls) held claims)
+        (q : take n kept ≡ settled (claimants (take n claims) (take n (c .primacies)) (take n (c .created)) (take n (c .ids))))
+        (r : Codes t n (c .stopped) (c .ends) (c .begins) held kept codes) where
+      abbrev next : List Entry
+      next = settledAt ps t (g .us)
+
+      masks : (k : ℕ) → k < n → getD kept k 0 ≡ heldAt ps t (g .us) (getD (g .us) k noEntry)
+      masks = kept-are ps (s .entries) (g .us) n c (g .columned) held (g .now) t claims kept (fits claims (p .size)) (fits (c .primacies) (g .long .primacies)) (fits (c .created) (g .long .created)) (fits (c .ids) (g .long .ids)) p q
+
+      rows-here : momentRows t n (c .ids) codes ≡ rowsAt ps t (g .us)
+      rows-here = rows-are ps (s .entries) (g .us) n c (g .columned) held (g .now) t codes (codes-are ps (s .entries) (g .us) n c (g .columned) held (g .now) t kept codes masks r)
+
+      whole : t ≡ suc (clock + (t - suc clock))
+      whole = omega (arith, after-now .0)
+
+      within : clock + (t - suc clock) ≤ lastClock
+      within = omega (arith, after-now .0, g .last)
+
+      split-next : passed (view s) to ≡ onward (record { state = stateIn ps next t; rows = g .done ++ rowsAt ps t (g .us) }) (advance (to - t) (stateIn ps next t))
+      split-next =
+          let rest = advance (to - t) (stateIn ps next t) in
+          g .split
+          ∙ ap (onward (record { state = stateIn ps (g .us) clock; rows = g .done })) (moment-then ps (g .us) clock (t - suc clock) (g .state) within still t to whole h)
+          ∙ ap (λ rs. record { state = rest .state; rows = rs }) (sym (append-assoc (g .done) (rowsAt ps t (g .us)) (rest .rows)))
+
+      pub room : at + length (momentRows t n (c .ids) codes) ≤ 96
+      room =
+          let rest = advance (to - t) (stateIn ps next t) in
+          omega (
+            arith,
+            few-rows s (g .good) to,
+            ap (λ m. length (m .rows)) split-next,
+            length-append (g .done ++ rowsAt ps t (g .us)) (rest .rows),
+            length-append (g .done) (rowsAt ps t (g .us)),
+            ap length rows-here,
+            g .written .count,
+          )
+
+      pub step : (rows′ : List ℕ) (at′ : ℕ) → Written rows at rows′ at′ (momentRows t n (c .ids) codes) → Going s to n c old rows′ kept t at′
+      step rows′ at′ w = record {
+        good = g .good;
+        last = g .last;
+        count = g .count;
+        columned = g .columned;
+        long = g .long;
+        size = g .size;
+        order = h;
+        us = next;
+        done = g .done ++ rowsAt ps t (g .us);
+        now = now-next ps (s .entries) (g .us) n c (g .columned) held (g .now) t kept masks;
+        state = sound-moment ps (g .us) clock (t - suc clock) (g .state) within still t whole (omega (arith, g .last));
+        split = split-next;
+        written = rows-then (g .written) (subst (Written rows at rows′ at′) rows-here w);
+      }
+
+    -- No moment up to the reading any more.
+
+    module _ (h : to < t) where
+      lasting-one : (i : ℕ) → i < n → (b : Bool) → ltb to (endOf (getD (g .us) i noEntry)) ≡ b
+          → cond b (withHolding (getD (s .entries) i noEntry) (record { held = getD held i 0 }) ∷ []) [] ≡ cond b (getD (g .us) i noEntry ∷ []) []
+      lasting-one i l true e = let a = g .now .alike i l in
+          ap (λ o. o ∷ []) (λ j. record { event = sym (a .event) j; begins = sym (a .begins) j; held = g .now .held i l j; cancelled = sym (a .cancelled) j })
+      lasting-one i l false e = refl
+
+      lasting-are : (i : ℕ) → i ≤ n → lastingOf to i (s .entries) (c .ends) held ≡ keep (lasts to) (take i (g .us))
+      unfolding lastingOf
+      lasting-are zero l = refl
+      lasting-are (suc i) l =
+          let o = getD (g .us) i noEntry in
+          ap₂ _++_ (lasting-are i (omega arith))
+          (ap (λ x. cond (ltb to x) (withHolding (getD (s .entries) i noEntry) (record { held = getD held i 0 }) ∷ []) []) (is-end ps (s .entries) (g .us) n c (g .columned) held (g .now) t i (omega arith))
+          ∙ lasting-one i (omega arith) (ltb to (endOf o)) refl)
+          ∙ sym (keep-append ps (s .entries) (g .us) n c (g .columned) held (g .now) t (lasts to) (take i (g .us)) (o ∷ []))
+          ∙ ap (keep (lasts to)) (sym (take-suc (g .us) i noEntry (omega (arith, g .now .size))))
+
+      all-lasting : lastingOf to (s .count) (s .entries) (c .ends) held ≡ keep (lasts to) (g .us)
+      all-lasting =
+          ap (λ k. lastingOf to k (s .entries) (c .ends) held) (sym (g .count)) ∙ lasting-are n (omega arith)
+          ∙ ap (keep (lasts to)) (ap (λ m. take m (g .us)) (sym (g .now .size)) ∙ take-length (g .us))
+
+      quiet : advance (to - clock) (stateIn ps (g .us) clock) ≡ record { state = stateIn ps (g .us) to; rows = [] }
+      quiet = quiet-to ps (g .us) clock (t - suc clock) (g .state) (omega (arith, after-now .0, after-now .1, g .last)) still to (omega (arith, after-now .0, after-now .1))
+
+      there : passed (view s) to ≡ record { state = stateIn ps (g .us) to; rows = g .done }
+      there =
+          g .split ∙ ap (onward (record { state = stateIn ps (g .us) clock; rows = g .done })) quiet
+          ∙ ap (λ rs. record { state = stateIn ps (g .us) to; rows = rs }) (append-nil (g .done))
+
+      pub stop : (end : Schedule) → end ≡ finished s to (c .ends) held → Advanced s to rows end at
+      stop end f = record {
+        schedule = f ∙ ap (λ hs. pad (record { clock = to; programs = ps; entries = hs })) all-lasting ∙ ap (λ m. pad (m .state)) (sym there);
+        rows = omega (arith, g .written .count, ap (λ m. length (m .rows)) there);
+        written = g .written .front ∙ ap (λ m. bytes (m .rows)) (sym there);
+        size = g .written .size ∙ g .size;
+      }

@@ -1,0 +1,68 @@
+-- One control: cut from a mask, and looked for at a place and in the union of the places.
+use mathlib.Core.Path.{_≡_, refl, ap, _∙_}
+use Prim.Native.Nat.{ℕ, suc, _+_, _-_, _*_, _%_, _^_, _<_}
+use native.Mathlib.Nat.{one-mul, pow-suc, div-eq-of-lt}
+use native.Mathlib.Omega.{arith}
+use mathlib.Core.Bool.{Bool, true, false, and-true, and-false, or-true}
+use mathlib.Core.List.{List}
+use lib.ListN.{length, getD, List·getD-eq-default}
+use lib.Pow.{pow-add, pow-lt, shl-shr}
+use lib.Bits.{bitOr}
+use lib.Dec.{ltb}
+use borrow.Author.Tests.{ltb-true, ltb-false, ne-eqb}
+use borrow.Author.Count.{below-more}
+use Rattle.rules.specs.Records.{has, cut, join}
+use Rattle.rules.proofs.Tests.{both}
+use Rattle.rules.proofs.Masks.{has-cut, has-join, has-none, cut-apart}
+use Rattle.calls.specs.Settled.{HasAt, Covers}
+
+-- what is too small for a control has it not
+pub has-above : (m k : ℕ) → m < 2 ^ k → has m k ≡ false
+unfolding has
+has-above m k l = rw (div-eq-of-lt l)
+
+has-self : (c : ℕ) → has (2 ^ c) c ≡ true
+unfolding has
+has-self c = rw (rw one-mul at (shl-shr 1 c))
+
+has-below : (j k : ℕ) → has (2 ^ (suc j + k)) k ≡ false
+unfolding has
+has-below j k = rw (pow-add 2 (suc j) k, shl-shr (2 ^ suc j) k, pow-suc 2 j) (ne-eqb _ 1 (λ (e : 2 ^ j * 2 % 2 ≡ 1). omega arith))
+
+has-only : (c k : ℕ) → has (2 ^ c) k ≡ true → k ≡ c
+has-only c k e = go (ltb c k) (ltb k c) refl refl
+  where
+    go : (a b : Bool) → ltb c k ≡ a → ltb k c ≡ b → k ≡ c
+    go true b p q = both (has (2 ^ c) k) e (has-above (2 ^ c) k (pow-lt (ltb-true c k p)))
+    go false true p q =
+        let l = ltb-true k c q in
+        both (has (2 ^ c) k) e (ap (λ x. has (2 ^ x) k) (omega arith) ∙ has-below (c - k - 1) k)
+    go false false p q = omega (arith, ltb-false c k p, ltb-false k c q)
+
+pub cut-same : (m c : ℕ) → has (cut m (2 ^ c)) c ≡ false
+cut-same m c = rw (has-cut, has-self, and-false)
+
+pub cut-other : (m c k : ℕ) → (k ≡ c → ⊥) → has (cut m (2 ^ c)) k ≡ has m k
+cut-other m c k d = rw (has-cut, none (has (2 ^ c) k) refl, and-true)
+  where
+    none : (b : Bool) → has (2 ^ c) k ≡ b → has (2 ^ c) k ≡ false
+    none true p = absurd (d (has-only c k p))
+    none false p = p
+
+pub cut-not : (m c : ℕ) → has m c ≡ false → cut m (2 ^ c) ≡ m
+cut-not m c e = cut-apart m (2 ^ c) (λ k p q. both (has m c) (rw (has-only c k q) at p) e)
+
+-- Places and their union.
+
+-- a place that has a control is there
+pub has-long : (ms : List ℕ) (i k : ℕ) → HasAt ms i k → i < length ms
+has-long ms i k h = go (ltb i (length ms)) refl
+  where
+    go : (b : Bool) → ltb i (length ms) ≡ b → i < length ms
+    go true p = ltb-true i (length ms) p
+    go false p = both _ h (rw (List·getD-eq-default ms 0 {n = i} (ltb-false i (length ms) p)) (has-none k))
+
+pub covers-more : (ms : List ℕ) (i all : ℕ) → Covers ms i all → Covers ms (i + 1) (bitOr all (getD ms i 0))
+unfolding join
+covers-more ms i all h =
+    below-more _ i (λ j l k e. rw (has-join, h j l k e)) (λ k e. rw (has-join, e, or-true))

@@ -1,0 +1,21 @@
+-- What belongs to no one function.
+pub mod Fill
+pub mod Puts
+pub mod Undropped
+pub mod Reached
+pub mod Columned
+pub mod Moment
+pub mod Keys
+pub mod Controls
+pub mod Deciding
+pub mod Settling
+pub mod Claimants
+pub mod Finishing
+pub mod Advancing
+pub mod Backward
+pub mod Forward
+pub mod Lengths
+pub mod Answers
+pub mod Places
+pub mod Shifts
+pub mod Stored

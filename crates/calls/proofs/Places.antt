@@ -1,0 +1,75 @@
+-- The place of an id tells what is held under it: the ids before it are smaller, and those behind it larger.
+use mathlib.Core.Path.{_≡_, refl}
+use mathlib.Core.Logic.{inl, inr}
+use mathlib.Core.Bool.{Bool, true, false, cond}
+use mathlib.Core.List.{List, [], _∷_}
+use mathlib.Core.Option.{none, some}
+use Prim.Native.Nat.{ℕ, zero, suc, _<_, _≤_}
+use native.Mathlib.Omega.{arith}
+use borrow.Author.Tests.{eq-eqb, ne-eqb}
+use lib.ListN.{length, getD, take}
+use lib.Seq.{length-take-le, getD-take}
+use Rattle.rules.specs.declared.Entry.{Entry}
+use Rattle.rules.specs.declared.Schedule.{Schedule}
+use Rattle.rules.specs.Lists.{All, Pairwise}
+use Rattle.rules.specs.Records.{mostEvents, noEntry, view}
+use Rattle.rules.specs.Sound.{sound}
+use Rattle.rules.specs.Refusals.{find}
+use Rattle.rules.specs.Calls.{entryId}
+use Rattle.rules.proofs.SoundState.{ById, rules, sound-view}
+use Rattle.calls.specs.declared.events.Place.{Place}
+use Rattle.calls.specs.Found.{Placed, Found}
+
+-- a place among all entries is one among those in use
+pub in-use : (es : List Entry) (n i at : ℕ) → n ≤ length es → at ≤ n
+    → ((k : ℕ) → k < at → entryId (getD es k noEntry) < i) → (at < n → i ≤ entryId (getD es at noEntry)) → Placed (take n es) i at
+in-use es n i at r w b f =
+    let long = length-take-le n es r in
+    record {
+      within = omega arith;
+      below = λ k l. rw (getD-take n es k noEntry (omega arith)) (b k l);
+      from = λ l. rw (getD-take n es at noEntry (omega arith)) (f (omega arith));
+    }
+
+module _ (i : ℕ) where
+  -- the place as those behind the first entry have it
+  pub behind : (x : Entry) (xs : List Entry) (k : ℕ) → Placed (x ∷ xs) i (suc k) → Placed xs i k
+  behind x xs k p = record {
+    within = omega (arith, p .within);
+    below = λ j l. p .below (suc j) (omega arith);
+    from = λ l. p .from (omega arith);
+  }
+
+  find-above : (hs : List Entry) → All (λ h. i < entryId h) hs → find i hs ≡ none
+  unfolding find
+  find-above [] a = refl
+  find-above (x ∷ xs) a = rw (ne-eqb (entryId x) i (λ e. let l = a x (inl refl) in omega arith)) (find-above xs (λ h m. a h (inr m)))
+
+  find-at : (hs : List Entry) (at : ℕ) (b : Bool) → Pairwise ById hs → Found hs i (record { at = at; held = b })
+      → find i hs ≡ cond b (some (getD hs at noEntry)) none
+  unfolding find
+  find-at [] at true s p = absurd (omega (arith, p .held refl .0))
+  find-at [] at false s p = refl
+  find-at (x ∷ xs) zero true s p = rw (eq-eqb (entryId x) i (p .held refl .1))
+  find-at (x ∷ xs) zero false s p =
+      let l = p .placed .from (omega arith) in
+      let d = p .free refl (omega arith) in
+      rw (ne-eqb (entryId x) i d) (find-above xs (λ h m. let o = s .0 h m in omega arith))
+  find-at (x ∷ xs) (suc k) b s p =
+      let l = p .placed .below 0 (omega arith) in
+      rw (ne-eqb (entryId x) i (λ e. omega arith)) (find-at xs k b (s .1) (record {
+        placed = behind x xs k (p .placed);
+        held = λ e. (omega (arith, p .held e .0), p .held e .1);
+        free = λ e m. p .free e (omega arith);
+      }))
+
+module _ (s : Schedule) (e : sound s ≡ true) where
+  -- as many entries are in use as the count says
+  pub in-count : length (view s .entries) ≡ s .count
+  in-count = length-take-le (s .count) (s .entries) (omega (arith, rules s e .full, rules s e .count))
+
+  pub found : {i : ℕ} {p : Place} → Found (view s .entries) i p → find i (view s .entries) ≡ cond (p .held) (some (getD (view s .entries) (p .at) noEntry)) none
+  found {i} {p} f = find-at i (view s .entries) (p .at) (p .held) (sound-view s e .ids) f
+
+  pub inside : {i : ℕ} {p : Place} → Found (view s .entries) i p → p .held ≡ true → (p .at < s .count) × (s .count ≤ mostEvents)
+  inside f h = (omega (arith, f .held h .0, in-count), rules s e .count)

@@ -1,0 +1,107 @@
+-- Bytes written one after the other, and rows.
+use mathlib.Core.Path.{_≡_, refl, sym, ap, _∙_, subst}
+use Prim.Native.Nat.{ℕ, zero, suc, _+_, _-_, _*_, _/_, _%_, _<_, _≤_}
+use mathlib.Core.List.{List, [], _∷_, _++_, append-assoc, append-nil}
+use native.Mathlib.Nat.{mod-eq-of-lt}
+use native.Mathlib.Numerals.{add-one}
+use native.Mathlib.Omega.{arith}
+use borrow.Author.Tests.{eq-eqb, ne-eqb}
+use lib.ListN.{length, take, getD, set, length-set, length-append}
+use lib.Seq.{take-suc-set}
+use Rattle.rules.specs.Rows.{Row}
+use Rattle.rules.specs.Bytes.{big, flat, rowBytes, bytes}
+use Rattle.rules.proofs.Numbers.{big-length}
+use Rattle.rules.proofs.RowBytes.{bytes-append}
+use Rattle.calls.specs.Columns.{rowIf, codedRows, Put, Written}
+
+module _ {l : List ℕ} {at : ℕ} where
+  pub none : Put l at [] l
+  none = let z : at + 0 ≡ at = omega arith in record { size = refl; front = rw z (sym (append-nil (take at l))) }
+
+  -- one byte more of a number
+  pub more : (n x i : ℕ) → i ≡ at + n → i < length l → {m : List ℕ} → Put l at (big n (x / 256)) m → Put l at (big (suc n) x) (set m i (x % 256))
+  unfolding big
+  more n x i e h {m} p =
+      let k : at + length (big n (x / 256)) ≡ i = omega (arith, big-length n (x / 256)) in
+      let s : at + length (big n (x / 256) ++ (x % 256 ∷ [])) ≡ suc i = omega (arith, big-length n (x / 256), length-append (big n (x / 256)) (x % 256 ∷ [])) in
+      let f : take i m ≡ take at l ++ big n (x / 256) = rw k at (p .front) in
+      record {
+        size = length-set m i (x % 256) ∙ p .size;
+        front = rw (s, take-suc-set m i (x % 256) (omega (arith, p .size)), f) (append-assoc (take at l) (big n (x / 256)) (x % 256 ∷ []));
+      }
+
+  -- bytes and then bytes
+  pub then : {vs ws m n : List ℕ} {i : ℕ} → Put l at vs m → i ≡ at + length vs → Put m i ws n → Put l at (vs ++ ws) n
+  then {vs} {ws} {m} {n} {i} p e q =
+      let k : at + length (vs ++ ws) ≡ i + length ws = omega (arith, length-append vs ws) in
+      record {
+        size = q .size ∙ p .size;
+        front = rw k (q .front ∙ rw (e, p .front) (append-assoc (take at l) vs ws));
+      }
+
+-- no row
+pub no-row : (l : List ℕ) (at : ℕ) → Written l at l at []
+unfolding flat
+no-row l at = record { size = refl; count = omega arith; front = sym (append-nil (take (17 * at) l)) }
+
+-- a row is its bytes
+pub one-row : (l m : List ℕ) (at : ℕ) (r : Row) → length (rowBytes r) ≡ 17 → Put l (at * 17) (rowBytes r) m → Written l at m (at + 1) (r ∷ [])
+unfolding flat
+one-row l m at r n p =
+    let e : at * 17 + length (rowBytes r) ≡ 17 * (at + 1) = omega arith in
+    let f : at * 17 ≡ 17 * at = omega arith in
+    record { size = p .size; count = omega arith; front = rw (append-nil, ← e, ← f) (p .front) }
+
+-- rows and then rows
+pub rows-then : {l m n : List ℕ} {at i j : ℕ} {rs qs : List Row} → Written l at m i rs → Written m i n j qs → Written l at n j (rs ++ qs)
+rows-then {l} {m} {n} {at} {i} {j} {rs} {qs} p q = record {
+  size = q .size ∙ p .size;
+  count = q .count ∙ omega (arith, p .count, length-append rs qs);
+  front = q .front ∙ rw (p .front, bytes-append rs qs) (append-assoc (take (17 * at) l) (bytes rs) (bytes qs));
+}
+
+-- the three parts of a row
+pub row-put : {l m n : List ℕ} (b t i k : ℕ) → k < 256 → b + 17 ≤ length l → Put l b (big 8 t) m → Put m (b + 8) (big 8 i) n
+    → Put l b (rowBytes (record { time = t; id = i; code = k })) (set n (b + 16) k)
+unfolding rowBytes big
+row-put {l} {m} {n} b t i k s h p q =
+    let last : Put n (b + 16) (big 1 k) (set n (b + 16) k) =
+    subst (λ v. Put n (b + 16) (big 1 k) (set n (b + 16) v)) (mod-eq-of-lt s) (more 0 k (b + 16) (omega arith) (omega (arith, p .size, q .size)) none) in
+    then p (omega (arith, big-length 8 t)) (then q (omega (arith, big-length 8 i)) last)
+
+pub row-size : (t i k : ℕ) → length (rowBytes (record { time = t; id = i; code = k })) ≡ 17
+unfolding rowBytes
+row-size t i k = simp (length-append, big-length)
+
+-- a row for a code that is given, and none for another
+pub row-given : {l n : List ℕ} (at t i c k : ℕ) → c ≡ k → Put l (at * 17) (rowBytes (record { time = t; id = i; code = k })) n → Written l at n (at + 1) (rowIf t k i c)
+row-given {l} {n} at t i c k e p = rw (eq-eqb c k e) (one-row l n at (record { time = t; id = i; code = k }) (row-size t i k) p)
+
+pub row-not : (l : List ℕ) (at t i c k : ℕ) → (c ≡ k → ⊥) → Written l at l at (rowIf t k i c)
+row-not l at t i c k e = rw (ne-eqb c k e) (no-row l at)
+
+pub row-fits : (at t i c k : ℕ) → c ≡ k → at + length (rowIf t k i c) ≤ 96 → at < 96
+row-fits at t i c k e h = omega (arith, rw (eq-eqb c k e) at h)
+
+-- Rows event by event.
+
+module _ (t k : ℕ) (ids codes : List ℕ) where
+  coded-more : (n : ℕ) → length (codedRows t k (suc n) ids codes) ≡ length (codedRows t k n ids codes) + length (rowIf t k (getD ids n 0) (getD codes n 0))
+  unfolding codedRows
+  coded-more n = length-append (codedRows t k n ids codes) (rowIf t k (getD ids n 0) (getD codes n 0))
+
+  coded-grows : (i d : ℕ) → length (codedRows t k i ids codes) ≤ length (codedRows t k (d + i) ids codes)
+  coded-grows i zero = let e : 0 + i ≡ i = omega arith in rw e (omega arith)
+  coded-grows i (suc d) = let e : suc d + i ≡ suc (d + i) = omega arith in rw e (omega (arith, coded-grows i d, coded-more (d + i)))
+
+  -- one more fits where all do
+  pub coded-fits : (from at i n : ℕ) → i < n → at ≡ from + length (codedRows t k i ids codes) → from + length (codedRows t k n ids codes) ≤ 96
+      → at + length (rowIf t k (getD ids i 0) (getD codes i 0)) ≤ 96
+  coded-fits from at i n l e f =
+      let d : n - suc i + suc i ≡ n = omega arith in
+      omega (arith, coded-more i, rw d at (coded-grows (suc i) (n - suc i)))
+
+  pub coded-next : {old new next : List ℕ} {from at to : ℕ} (i : ℕ) → Written old from new at (codedRows t k i ids codes)
+      → Written new at next to (rowIf t k (getD ids i 0) (getD codes i 0)) → Written old from next to (codedRows t k (i + 1) ids codes)
+  unfolding codedRows
+  coded-next i p q = rw (add-one i) (rows-then p q)

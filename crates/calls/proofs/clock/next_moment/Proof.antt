@@ -1,0 +1,58 @@
+-- The loop has looked at the first i.
+use mathlib.Core.Path.{_≡_, refl, sym, ap, _∙_}
+use Prim.Native.Nat.{ℕ, suc, _+_, _-_, _≤_}
+use native.Mathlib.Numerals.{add-one}
+use native.Mathlib.Omega.{arith}
+use borrow.Author.Needs.{needs}
+use lib.ListN.{length, getD}
+use Rattle.calls.specs.Columns.{nearest, nextOf}
+use Rattle.calls.proofs.clock.next_moment.Statement.{statement}
+use Rattle.calls.proofs.clock.next_moment.Tie as tie
+
+abbrev Inv-loop : tie.InvT-loop
+Inv-loop clock limit begins ends n t₀ i₀ t i = (i ≤ n) × (n ≤ 48) × (length begins ≡ 48) × (length ends ≡ 48) × (t ≡ nextOf clock limit i begins ends)
+
+abbrev μ-loop : tie.MeasureT-loop
+μ-loop clock limit begins ends n t₀ i₀ t i = n - i
+
+loop-holds : tie.Need-loop-holds Inv-loop μ-loop
+unfolding nextOf
+loop-holds c = (omega arith, c .pre .0, c .pre .1, c .pre .2, refl)
+
+loop-again : tie.Need-loop-again Inv-loop μ-loop
+unfolding nextOf
+loop-again c =
+    let l = c .before .before .before .before .before .loop in
+    let a = c .before .before .before .before .before .before .args in (
+      omega arith,
+      l .inv .1,
+      l .inv .2,
+      l .inv .3,
+      c .nearer2 .ensures
+          ∙ ap (nearest (a .clock) (getD (a .begins .now) (l .i) 0)) (c .before .nearer .ensures ∙ ap (nearest (a .clock) (getD (a .ends .now) (l .i) 0)) (l .inv .4))
+          ∙ ap (λ k. nextOf (a .clock) (a .limit) k (a .begins .now) (a .ends .now)) (sym (add-one (l .i))),
+    )
+
+returns : tie.Need-returns Inv-loop μ-loop
+returns c =
+    let l = c .before .loop in
+    let z : l .i ≡ c .before .before .args .n = omega arith in
+    l .inv .4 ∙ ap (λ k. nextOf (c .before .before .args .clock) (c .before .before .args .limit) k (c .before .before .args .begins .now) (c .before .before .args .ends .now)) z
+
+pub next-moment-spec : {M : Type 1} → statement M
+next-moment-spec =
+    tie.close
+    (tie.spec
+    Inv-loop
+    μ-loop
+    loop-holds
+    (λ c. search needs)
+    (λ c. omega arith)
+    (λ c. search needs)
+    (λ c. omega arith)
+    (λ c κs. search needs)
+    (λ c κs. search needs)
+    (λ c. omega arith)
+    (λ c. omega arith)
+    loop-again
+    returns)

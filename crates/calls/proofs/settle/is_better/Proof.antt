@@ -1,0 +1,31 @@
+-- `settle::is_better` is `better`: key by key.
+use mathlib.Core.Path.{refl}
+use Rattle.rules.specs.Holding.{better}
+use Rattle.calls.proofs.Keys.{key-yes, key-no, key-tie}
+use Rattle.calls.proofs.settle.is_better.Statement.{statement}
+use Rattle.calls.proofs.settle.is_better.Tie as tie
+
+returns : tie.Need-returns
+unfolding better
+returns c = key-yes _ _ _ (c .if1 .taken)
+
+returns-2 : tie.Need-returns-2
+unfolding better
+returns-2 c = key-no _ _ _ (c .if2 .taken)
+
+returns-3 : tie.Need-returns-3
+unfolding better
+returns-3 c = key-tie _ _ _ _ (c .before .before .if1 .left) (c .before .if2 .left) (key-yes _ _ _ (c .if3 .taken))
+
+returns-4 : tie.Need-returns-4
+unfolding better
+returns-4 c = key-tie _ _ _ _ (c .before .before .before .if1 .left) (c .before .before .if2 .left) (key-no _ _ _ (c .if4 .taken))
+
+returns-5 : tie.Need-returns-5
+unfolding better
+returns-5 c =
+    key-tie _ _ _ _ (c .before .before .before .if1 .left) (c .before .before .if2 .left)
+    (key-tie _ _ _ _ (c .before .if3 .left) (c .if4 .left) refl)
+
+pub is-better-spec : {M : Type 1} → statement M
+is-better-spec = tie.close (tie.spec returns returns-2 returns-3 returns-4 returns-5)

@@ -1,0 +1,13 @@
+-- The three tests, joined.
+use borrow.Author.Needs.{needs}
+use Rattle.rules.specs.Records.{cut}
+use Rattle.rules.specs.Sound.{carried, heldSinceStart, noneIfCancelled}
+use Rattle.calls.proofs.sound.is_rightly_held.Statement.{statement}
+use Rattle.calls.proofs.sound.is_rightly_held.Tie as tie
+
+returns : tie.Need-returns
+unfolding cut carried heldSinceStart noneIfCancelled
+returns c = cc
+
+pub is-rightly-held-spec : {M : Type 1} → statement M
+is-rightly-held-spec = tie.close (tie.spec (λ c κs. search needs) (λ c κs. search needs) (λ c κs. search needs) (λ c κs. search needs) returns)

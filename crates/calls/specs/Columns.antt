@@ -1,0 +1,64 @@
+-- The clock call over columns of plain numbers: what each function under it promises.
+use mathlib.Core.Path.{_≡_}
+use Prim.Native.Nat.{ℕ, zero, suc, _+_, _*_, _<_, _≤_, min}
+use mathlib.Core.Bool.{Bool, false, cond, not, _||_}
+use mathlib.Core.List.{List, [], _∷_, _++_}
+use lib.Dec.{leb, ltb, eqb}
+use lib.ListN.{length, take, getD}
+use Rattle.rules.specs.Rows.{Row}
+use Rattle.rules.specs.Bytes.{bytes}
+
+-- `claim` of the fields that it looks at
+unfoldable pub claimOf : ℕ → Bool → ℕ → ℕ → ℕ → ℕ → ℕ
+claimOf t stopped end begins controls held = cond (stopped || leb end t || ltb t begins) 0 (cond (eqb begins t) controls held)
+
+-- `codeAt` of the fields that it looks at
+unfoldable pub codeOf : ℕ → Bool → ℕ → ℕ → ℕ → ℕ → ℕ
+codeOf t stopped end begins held kept =
+    cond (stopped || ltb end t || ltb t begins) 0
+    (cond (eqb end t) (cond (eqb held 0) 0 3)
+    (cond (eqb begins t) (cond (eqb kept 0) 7 2)
+    (cond (eqb held 0 || not (eqb kept 0)) 0 7)))
+
+-- each of the first n claims what its fields say
+pub record Claims (t n : ℕ) (stopped : List Bool) (ends begins controls held claims : List ℕ) : Type 0 where
+  pub size : length claims ≡ 48
+  pub each : (k : ℕ) → k < n → getD claims k 0 ≡ claimOf t (getD stopped k false) (getD ends k 0) (getD begins k 0) (getD controls k 0) (getD held k 0)
+
+-- and gives the code that they say
+pub record Codes (t n : ℕ) (stopped : List Bool) (ends begins held kept codes : List ℕ) : Type 0 where
+  pub size : length codes ≡ 48
+  pub each : (k : ℕ) → k < n → getD codes k 0 ≡ codeOf t (getD stopped k false) (getD ends k 0) (getD begins k 0) (getD held k 0) (getD kept k 0)
+
+-- the nearer of two moments after the clock
+unfoldable pub nearest : ℕ → ℕ → ℕ → ℕ
+nearest clock x best = cond (leb x clock) best (cond (ltb x best) x best)
+
+-- the nearest of the first n beginnings and ends
+unfoldable pub nextOf : ℕ → ℕ → ℕ → List ℕ → List ℕ → ℕ
+nextOf clock limit zero begins ends = limit
+nextOf clock limit (suc n) begins ends = nearest clock (getD begins n 0) (nearest clock (getD ends n 0) (nextOf clock limit n begins ends))
+
+-- the row of an event, if it gives the code k
+abbrev pub rowIf : ℕ → ℕ → ℕ → ℕ → List Row
+rowIf t k id code = cond (eqb code k) (record { time = t; id = id; code = k } ∷ []) []
+
+-- the rows of the first n events that give the code k
+unfoldable pub codedRows : ℕ → ℕ → ℕ → List ℕ → List ℕ → List Row
+codedRows t k zero ids codes = []
+codedRows t k (suc n) ids codes = codedRows t k n ids codes ++ rowIf t k (getD ids n 0) (getD codes n 0)
+
+-- the rows of a moment
+abbrev pub momentRows : ℕ → ℕ → List ℕ → List ℕ → List Row
+momentRows t n ids codes = codedRows t 3 n ids codes ++ (codedRows t 7 n ids codes ++ codedRows t 2 n ids codes)
+
+-- the bytes vs stand in `new` at `at`, after what stood there in `old`; what is past them is left open
+pub record Put (old : List ℕ) (at : ℕ) (vs new : List ℕ) : Type 0 where
+  pub size : length new ≡ length old
+  pub front : take (at + length vs) new ≡ take at old ++ vs
+
+-- a buffer of rows with some more written behind the first `at`; what is past them is left open
+pub record Written (old : List ℕ) (at : ℕ) (new : List ℕ) (next : ℕ) (rows : List Row) : Type 0 where
+  pub size : length new ≡ length old
+  pub count : next ≡ at + length rows
+  pub front : take (17 * next) new ≡ take (17 * at) old ++ bytes rows

@@ -1,0 +1,34 @@
+-- The held events of a schedule, column by column.
+use mathlib.Core.Path.{_≡_}
+use Prim.Native.Nat.{ℕ, _<_}
+use mathlib.Core.Bool.{Bool, false}
+use mathlib.Core.List.{List}
+use lib.ListN.{length, getD}
+use Rattle.rules.specs.declared.Entry.{Entry}
+use Rattle.rules.specs.declared.Program.{Program}
+use Rattle.rules.specs.declared.Schedule.{Schedule}
+use Rattle.rules.specs.Records.{idOf, noEntry, programAt}
+use Rattle.rules.specs.Holding.{endOf}
+use Rattle.calls.specs.declared.columns.Columns.{Columns}
+
+-- column by column, what the first n entries have
+pub record Columned (ps : List Program) (hs : List Entry) (n : ℕ) (c : Columns) : Type 0 where
+  pub stopped : (k : ℕ) → k < n → getD (c .stopped) k false ≡ getD hs k noEntry .cancelled
+  pub ends : (k : ℕ) → k < n → getD (c .ends) k 0 ≡ endOf (getD hs k noEntry)
+  pub begins : (k : ℕ) → k < n → getD (c .begins) k 0 ≡ getD hs k noEntry .begins
+  pub controls : (k : ℕ) → k < n → getD (c .controls) k 0 ≡ getD hs k noEntry .event .controls
+  pub primacies : (k : ℕ) → k < n → getD (c .primacies) k 0 ≡ programAt ps (getD hs k noEntry .event .program) .primacy
+  pub created : (k : ℕ) → k < n → getD (c .created) k 0 ≡ getD hs k noEntry .event .created
+  pub ids : (k : ℕ) → k < n → getD (c .ids) k 0 ≡ idOf (getD hs k noEntry .event)
+  pub held : (k : ℕ) → k < n → getD (c .held) k 0 ≡ getD hs k noEntry .held
+
+-- all columns have 48 places
+pub record Long (c : Columns) : Type 0 where
+  pub stopped : length (c .stopped) ≡ 48
+  pub ends : length (c .ends) ≡ 48
+  pub begins : length (c .begins) ≡ 48
+  pub controls : length (c .controls) ≡ 48
+  pub primacies : length (c .primacies) ≡ 48
+  pub created : length (c .created) ≡ 48
+  pub ids : length (c .ids) ≡ 48
+  pub held : length (c .held) ≡ 48

@@ -1,0 +1,9 @@
+-- What the functions under the calls promise to each other.
+pub mod Answered
+pub mod Found
+pub mod Columns
+pub mod Held
+pub mod HeldRules
+pub mod Finished
+pub mod Advanced
+pub mod Settled
