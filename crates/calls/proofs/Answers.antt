@@ -33,3 +33,8 @@ module _ (s : Schedule) (e : sound s ≡ true) where
   room v z f =
       let left = sound-does (view s) (sound-view s e) (deliver v) (eq-eqb _ 0 z) .room in
       omega (arith, rw f at left, insert-length entryId (entry (s .clock) v) (view s .entries), in-count s e)
+
+-- a schedule that breaks a rule is refused with 2 and comes back as it came
+pub broken : (s : Schedule) → sound s ≡ false → (c : Call) → record { number = 2; value = nothing; state = s; bytes = lentBytes c; records = lentList c } ≡ call s c
+unfolding call refusal
+broken s e c = rw e

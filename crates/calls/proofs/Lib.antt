@@ -19,3 +19,6 @@ pub mod Answers
 pub mod Places
 pub mod Shifts
 pub mod Stored
+pub mod Adding
+pub mod Asking
+pub mod Copying

@@ -1,17 +1,92 @@
-// The calls by value. Each takes the schedule and hands it back with an answer; what it returns and leaves is one equation with `call`.
+// The calls by value. Each takes the schedule and any other input, and hands the schedule back with an answer. What it returns and leaves behind is
+// one equation with `call` of the definitions, refusals included: first 2 for a schedule that breaks a rule, then the call's own numbers in order.
+ghost use mathlib.Core.Path.{_≡_};
+ghost use mathlib.Core.List.{[]};
+ghost use Rattle.rules.specs.Calls.{call, addProgram, deliver, cancel, setClock, ask};
+ghost use Rattle.calls.specs.Answered.{outcomeOf};
+
 mod advance;
 mod clock;
 mod columns;
 mod events;
 mod finish;
+mod programs;
+mod reading;
 mod settle;
 mod sound;
 
 use rules::Answer;
+use rules::Event;
+use rules::Id;
 use rules::Schedule;
 
 // What a call returns.
 pub struct Answered {
     pub answer: Answer,
     pub schedule: Schedule,
+}
+
+// Calls, add a program: code 0.
+pub fn add_program(s: Schedule, number: u8, primacy: u8, defaults: u32) -> Answered
+    ensures { λ r. ⌜ outcomeOf r [] [] ≡ call s (addProgram number primacy defaults) ⌝ }
+{
+    if sound::is_sound(s) {
+        return programs::add_program(s, number, primacy, defaults);
+    }
+    Answered {
+        answer: Answer::Refused(2),
+        schedule: s,
+    }
+}
+
+// Calls, deliver an event: code 1 if it is new, 0 if it is held already with every field equal.
+pub fn deliver(s: Schedule, e: Event) -> Answered
+    ensures { λ r. ⌜ outcomeOf r [] [] ≡ call s (deliver e) ⌝ }
+{
+    if sound::is_sound(s) {
+        return events::deliver(s, e);
+    }
+    Answered {
+        answer: Answer::Refused(2),
+        schedule: s,
+    }
+}
+
+// Calls, cancel: code 6, or 0 if the event was cancelled before.
+pub fn cancel(s: Schedule, id: Id) -> Answered
+    ensures { λ r. ⌜ outcomeOf r [] [] ≡ call s (cancel (id .value)) ⌝ }
+{
+    if sound::is_sound(s) {
+        return events::cancel(s, id);
+    }
+    Answered {
+        answer: Answer::Refused(2),
+        schedule: s,
+    }
+}
+
+// Calls, set the clock: the rows of the moments passed go into the buffer, and their count is the answer.
+pub fn set_clock(s: Schedule, reading: u64, buffer: &mut [u8]) -> Answered
+    ensures { λ r. ⌜ outcomeOf r (now (buffer .exit)) [] ≡ call s (setClock reading (now (buffer .entry))) ⌝ }
+{
+    if sound::is_sound(s) {
+        return reading::set_clock(s, reading, buffer);
+    }
+    Answered {
+        answer: Answer::Refused(2),
+        schedule: s,
+    }
+}
+
+// Calls, ask for a control: its holder, else the program of its default, else nobody.
+pub fn ask(s: Schedule, control: u8) -> Answered
+    ensures { λ r. ⌜ outcomeOf r [] [] ≡ call s (ask control) ⌝ }
+{
+    if sound::is_sound(s) {
+        return programs::ask(s, control);
+    }
+    Answered {
+        answer: Answer::Refused(2),
+        schedule: s,
+    }
 }

@@ -27,7 +27,7 @@ pub(crate) fn is_better(p: u8, q: u8, made: u32, other: u32, id: u64, rival: u64
 }
 
 // Whether control c is in the mask m.
-fn is_in(m: u32, c: u32) -> bool
+pub(crate) fn is_in(m: u32, c: u32) -> bool
     requires { ⌜ c < 32 ⌝ }
     ensures { λ r. ⌜ r ≡ has m c ⌝ }
 {

@@ -1,0 +1,78 @@
+-- A question, place by place: the first event that holds the control, and the best default from the back.
+use mathlib.Core.Path.{_≡_, refl, sym, ap, ap₂, _∙_}
+use Prim.Native.Nat.{ℕ, suc, _+_, _-_, _<_, _≤_}
+use mathlib.Core.Bool.{Bool, true, false, cond, not, _&&_}
+use mathlib.Core.List.{List, [], _∷_}
+use mathlib.Core.Option.{Option, none, some}
+use native.Mathlib.Numerals.{add-one}
+use native.Mathlib.Omega.{arith}
+use lib.Dec.{leb}
+use lib.ListN.{length, take, drop, getD, length-take, drop-of-length-le}
+use lib.Seq.{drop-cons, getD-take}
+use borrow.Author.Tests.{le-leb, lt-leb, not-true, not-false}
+use Rattle.rules.specs.declared.Entry.{Entry}
+use Rattle.rules.specs.declared.Program.{Program}
+use Rattle.rules.specs.Records.{has, noProgram, noEntry}
+use Rattle.rules.specs.Calls.{Value, holder, default, nobody, entryId, holderIn, Ranked, bestOf, bestDefault, defaultFor}
+use Rattle.calls.specs.declared.programs.Best.{Best}
+use Rattle.calls.specs.Best.{ranked, carrying}
+
+-- Defaults.
+
+module _ (c n : ℕ) (p : Program) (b : Best) (r : Bool) (is : r ≡ has (p .defaults) c) where
+  abbrev this : Best
+  this = record { found = true; number = n; primacy = p .primacy }
+
+  pub not-carried : not (p .added && r) ≡ true → ranked b ≡ bestOf (carrying c n p) (ranked b)
+  not-carried e = rw (← is, not-true (p .added && r) e)
+
+  pub first-carried : not (p .added && r) ≡ false → not (b .found) ≡ true → ranked this ≡ bestOf (carrying c n p) (ranked b)
+  first-carried e f = rw (← is, not-false (p .added && r) e, not-true (b .found) f)
+
+  pub as-good : not (p .added && r) ≡ false → not (b .found) ≡ false → p .primacy ≤ b .primacy → ranked this ≡ bestOf (carrying c n p) (ranked b)
+  as-good e f l = rw (← is, not-false (p .added && r) e, not-false (b .found) f, le-leb (p .primacy) (b .primacy) l)
+
+  pub worse : not (p .added && r) ≡ false → not (b .found) ≡ false → b .primacy < p .primacy → ranked b ≡ bestOf (carrying c n p) (ranked b)
+  worse e f l = rw (← is, not-false (p .added && r) e, not-false (b .found) f, lt-leb (p .primacy) (b .primacy) l)
+
+-- one more from the back
+pub default-next : (c i j : ℕ) (ps : List Program) (b r : Best) → i ≡ suc j → i ≤ length ps → ranked b ≡ bestDefault c i (drop i ps)
+    → ranked r ≡ bestOf (carrying c j (getD ps j noProgram)) (ranked b) → ranked r ≡ bestDefault c j (drop j ps)
+unfolding bestDefault
+default-next c i j ps b r e l h q =
+    q ∙ ap (bestOf (carrying c j (getD ps j noProgram))) (h ∙ ap (λ k. bestDefault c k (drop k ps)) e)
+    ∙ ap (bestDefault c j) (sym (drop-cons ps j noProgram (omega arith)))
+
+pub default-none : (c : ℕ) (ps : List Program) (b : Best) → b .found ≡ false → length ps ≡ 8 → ranked b ≡ bestDefault c 8 (drop 8 ps)
+unfolding bestDefault
+default-none c ps b e l = rw (e, drop-of-length-le ps {i = 8} (omega arith))
+
+-- Holders.
+
+module _ (c n : ℕ) (hs : List Entry) (v : Value) (fits : n ≤ length hs) where
+  abbrev from : ℕ → List Entry
+  from i = drop i (take n hs)
+
+  here : (i : ℕ) → i < n → from i ≡ getD hs i noEntry ∷ from (suc i)
+  here i l = drop-cons (take n hs) i noEntry (omega (arith, length-take n hs)) ∙ ap (λ h. h ∷ from (suc i)) (getD-take n hs i noEntry l)
+
+  -- the first that holds it is the answer
+  pub held-here : (i : ℕ) → i < n → has (getD hs i noEntry .held) c ≡ true → holder (entryId (getD hs i noEntry)) ≡ holderIn c (from i) v
+  unfolding holderIn
+  held-here i l e = rw (here i l, e)
+
+  -- one that does not is passed over
+  pub not-here : (i : ℕ) → i < n → has (getD hs i noEntry .held) c ≡ false → holderIn c (from i) v ≡ holderIn c (from (i + 1)) v
+  unfolding holderIn
+  not-here i l e = rw (add-one i, here i l, e)
+
+  pub none-holds : (i : ℕ) → n ≤ i → v ≡ holderIn c (from i) v
+  unfolding holderIn
+  none-holds i l = rw (drop-of-length-le (take n hs) {i = i} (omega (arith, length-take n hs)))
+
+-- the answer that the best default makes
+pub default-found : (c : ℕ) (ps : List Program) (b : Best) → ranked b ≡ bestDefault c 0 ps → b .found ≡ true → default (b .number) ≡ defaultFor (bestDefault c 0 ps)
+default-found c ps b e f = rw (← e, f)
+
+pub default-not : (c : ℕ) (ps : List Program) (b : Best) → ranked b ≡ bestDefault c 0 ps → b .found ≡ false → nobody ≡ defaultFor (bestDefault c 0 ps)
+default-not c ps b e f = rw (← e, f)
