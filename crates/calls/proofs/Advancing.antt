@@ -1,22 +1,21 @@
 -- The loop over moments: what was passed and what is left make up the whole, and the columns say where the entries stand.
 use mathlib.Core.Path.{_≡_, refl, sym, ap, ap₂, _∙_, subst}
-use mathlib.Core.Logic.{inl, inr}
-use Prim.Native.Nat.{ℕ, zero, suc, _+_, _-_, _*_, _<_, _≤_}
+use Prim.Native.Nat.{ℕ, zero, suc, _+_, _-_, _<_, _≤_}
 use mathlib.Core.Bool.{Bool, true, false, cond}
 use mathlib.Core.List.{List, [], _∷_, _++_, map, append-assoc, append-nil}
 use native.Mathlib.Omega.{arith}
 use lib.Dec.{ltb}
-use lib.ListN.{length, take, getD, length-append, length-take}
+use lib.ListN.{length, take, getD, length-append}
 use lib.Seq.{getD-take, take-suc, take-length}
 use borrow.Author.Tests.{lt-ltb}
 use Rattle.rules.specs.declared.Entry.{Entry}
 use Rattle.rules.specs.declared.Program.{Program}
 use Rattle.rules.specs.declared.Schedule.{Schedule}
-use Rattle.rules.specs.Lists.{keep, In, All, Pairwise}
-use Rattle.rules.specs.Records.{State, idOf, noEntry, lastClock, view, pad}
-use Rattle.rules.specs.Holding.{heldAt, holdingAt, withHolding, endOf}
-use Rattle.rules.specs.Rows.{Row, codeAt, rowsAt}
-use Rattle.rules.specs.Moments.{Moved, lasts, advance, passed}
+use Rattle.rules.specs.Lists.{keep, All, Pairwise}
+use Rattle.rules.specs.Records.{noEntry, lastClock, view, pad}
+use Rattle.rules.specs.Holding.{heldAt, withHolding, endOf}
+use Rattle.rules.specs.Rows.{Row, rowsAt}
+use Rattle.rules.specs.Moments.{lasts, advance, passed}
 use Rattle.rules.specs.Bytes.{bytes}
 use Rattle.rules.specs.Sound.{sound}
 use Rattle.rules.specs.Calls.{entryId}
@@ -31,9 +30,9 @@ use Rattle.calls.specs.Settled.{claimants, settled}
 use Rattle.calls.specs.Finished.{lastingOf, finished}
 use Rattle.calls.specs.Advanced.{Advanced}
 use Rattle.calls.proofs.Puts.{no-row, rows-then}
-use Rattle.calls.proofs.Reached.{held-length}
+use Rattle.calls.proofs.Places.{in-count}
 use Rattle.calls.proofs.Undropped.{settledAt, stateIn, quiet-to, moment-then, sound-moment}
-use Rattle.calls.proofs.Moment.{Alike, Now, front-is, keep-append, is-end, is-begins, of-event, kept-are, codes-are, rows-are, now-next, next-after, next-idle}
+use Rattle.calls.proofs.Moment.{Now, front-is, keep-append, is-end, is-begins, kept-are, codes-are, rows-are, now-next, next-after, next-idle}
 
 -- after the moments up to a clock
 pub record Going (s : Schedule) (to n : ℕ) (c : Columns) (old rows held : List ℕ) (clock at : ℕ) : Type 0 where
@@ -70,7 +69,7 @@ start s to c old good h l size w long =
       us = us;
       done = [];
       now = record {
-        size = held-length s good;
+        size = in-count s good;
         alike = λ k i. let e = getD-take (s .count) (s .entries) k noEntry i in record { event = ap (λ o. o .event) e; begins = ap (λ o. o .begins) e; cancelled = ap (λ o. o .cancelled) e };
         held = λ k i. w .held k i ∙ sym (ap (λ o. o .held) (getD-take (s .count) (s .entries) k noEntry i));
       };
@@ -93,7 +92,7 @@ module _ {s : Schedule} {to n : ℕ} {c : Columns} {old rows held : List ℕ} {c
   pub ids-ascend : Pairwise _<_ (take n (c .ids))
   ids-ascend =
       let e : take n (c .ids) ≡ map entryId (view s .entries) =
-      front-is entryId noEntry (view s .entries) (c .ids) n (held-length s (g .good) ∙ sym (g .count)) (fits (c .ids) (g .long .ids))
+      front-is entryId noEntry (view s .entries) (c .ids) n (in-count s (g .good) ∙ sym (g .count)) (fits (c .ids) (g .long .ids))
       (λ k i. g .columned .ids k i ∙ sym (ap entryId (getD-take (s .count) (s .entries) k noEntry (omega (arith, g .count))))) in
       subst (Pairwise _<_) (sym e) (asc-map ById _<_ entryId (λ x y b. b) (view s .entries) (sound-view s (g .good) .ids))
 
@@ -182,7 +181,7 @@ module _ {s : Schedule} {to n : ℕ} {c : Columns} {old rows held : List ℕ} {c
           ap₂ _++_ (lasting-are i (omega arith))
           (ap (λ x. cond (ltb to x) (withHolding (getD (s .entries) i noEntry) (record { held = getD held i 0 }) ∷ []) []) (is-end ps (s .entries) (g .us) n c (g .columned) held (g .now) t i (omega arith))
           ∙ lasting-one i (omega arith) (ltb to (endOf o)) refl)
-          ∙ sym (keep-append ps (s .entries) (g .us) n c (g .columned) held (g .now) t (lasts to) (take i (g .us)) (o ∷ []))
+          ∙ sym (keep-append (lasts to) (take i (g .us)) (o ∷ []))
           ∙ ap (keep (lasts to)) (sym (take-suc (g .us) i noEntry (omega (arith, g .now .size))))
 
       all-lasting : lastingOf to (s .count) (s .entries) (c .ends) held ≡ keep (lasts to) (g .us)

@@ -1,4 +1,4 @@
--- What a call on a sound schedule gives: the number of its own checks, or what it does.
+-- What a call on a sound schedule gives: the number of its own checks.
 use mathlib.Core.Path.{_≡_}
 use mathlib.Core.Bool.{true, false}
 use mathlib.Core.Option.{none}
@@ -11,7 +11,7 @@ use Rattle.rules.specs.declared.Schedule.{Schedule}
 use Rattle.rules.specs.Records.{mostEvents, idOf, view}
 use Rattle.rules.specs.Sound.{sound}
 use Rattle.rules.specs.Refusals.{firstOf, find}
-use Rattle.rules.specs.Calls.{Call, deliver, nothing, entry, entryId, does, checks, refusal, accepted, lentBytes, lentList, call}
+use Rattle.rules.specs.Calls.{Call, deliver, nothing, entry, entryId, does, checks, refusal, lentBytes, lentList, call}
 use Rattle.rules.proofs.ListLaws.{insert-length}
 use Rattle.rules.proofs.SoundState.{sound-view}
 use Rattle.rules.proofs.SoundKept.{sound-does}
@@ -22,10 +22,6 @@ module _ (s : Schedule) (e : sound s ≡ true) where
       → record { number = n; value = nothing; state = s; bytes = lentBytes c; records = lentList c } ≡ call s c
   unfolding call refusal
   given c n f q = rw (e, ← q, f)
-
-  pub done : (c : Call) → firstOf (checks (view s) c) ≡ 0 → accepted (does (view s) c) ≡ call s c
-  unfolding call refusal
-  done c z = rw (e, z)
 
   -- an event that is taken in finds room, since what is left is sound
   pub room : (v : Event) → firstOf (checks (view s) (deliver v)) ≡ 0 → find (idOf v) (view s .entries) ≡ none → s .count < mostEvents

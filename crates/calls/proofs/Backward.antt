@@ -112,15 +112,15 @@ module _ (ps : List Program) (clock : ℕ) where
         let e : suc (i - 1) ≡ i = omega arith in
         drop-cons (take n xs) (i - 1) d (simp length-take (omega arith)) ∙ rw (e, getD-take n xs (i - 1) d (omega arith))
 
-    pub turn : {own before rest ok ok′ more : Bool} {used next : ℕ} → let h = getD xs (i - 1) d in
-        own ≡ soundEntry ps clock h → before ≡ precedes more next h && clear used h → rest ≡ before && ok → ok′ ≡ own && rest
-        → Passed (drop i (take n xs)) ok used more next → Passed (drop (i - 1) (take n xs)) ok′ (join (h .held) used) true (idOf (h .event))
-    turn o b r e p =
+    pub turn : {own before ok more : Bool} {used next : ℕ} → let h = getD xs (i - 1) d in
+        own ≡ soundEntry ps clock h → before ≡ precedes more next h && clear used h
+        → Passed (drop i (take n xs)) ok used more next → Passed (drop (i - 1) (take n xs)) (own && (before && ok)) (join (h .held) used) true (idOf (h .event))
+    turn o b p =
         let h = getD xs (i - 1) d in
         let hs = drop i (take n xs) in
         rw one-more
         (record {
-          kept = e ∙ rw (o, r, b, p .kept, p .union, p .any, p .first, regroup, ids-ascend h hs, masks-apart h hs);
+          kept = rw (o, b, p .kept, p .union, p .any, p .first, regroup, ids-ascend h hs, masks-apart h hs);
           union = ap (join (h .held)) (p .union);
           any = refl;
           first = refl;

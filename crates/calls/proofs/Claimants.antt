@@ -4,7 +4,7 @@ use mathlib.Core.Logic.{_↔_}
 use Prim.Native.Nat.{ℕ, zero, suc, _<_, _≤_}
 use native.Mathlib.Omega.{arith}
 use mathlib.Core.Bool.{Bool, true, false, cond, not, _||_, or-true}
-use mathlib.Core.List.{List, [], _∷_, map}
+use mathlib.Core.List.{List, [], _∷_}
 use lib.ListN.{length, take, getD, length-map}
 use lib.Seq.{length-take-le, getD-take, ext-getD}
 use Rattle.rules.specs.Records.{has, cut}
@@ -12,12 +12,8 @@ use Rattle.rules.specs.Holding.{Rank, better}
 use Rattle.rules.proofs.Tests.{both, each-true}
 use Rattle.rules.proofs.Masks.{has-cut, has-join, has-none, not-has}
 use Rattle.rules.proofs.Nobody.{has-ext}
+use Rattle.calls.proofs.Reached.{at-map}
 use Rattle.calls.specs.Settled.{Claimant, claimants, takenFrom, settled, rankAt, HasAt, Keeps}
-
-map-at : {A B : Type 0} (f : A → B) (xs : List A) (i : ℕ) (d : A) (e : B) → i < length xs → getD (map f xs) i e ≡ f (getD xs i d)
-map-at f [] i d e l = absurd (omega arith)
-map-at f (x ∷ xs) zero d e l = refl
-map-at f (x ∷ xs) (suc i) d e l = map-at f xs i d e (omega arith)
 
 -- past the end
 nobody : Claimant
@@ -114,4 +110,4 @@ module _ (ms ps cs is : List ℕ) (n : ℕ) (lm : n ≤ length ms) (lp : n ≤ l
       go i h =
           getD-take n new i 0 h
           ∙ has-ext _ _ (λ k. (λ e. kept-if i k (f i k h .0 e), λ e. f i k h .1 (if-kept i k e)))
-          ∙ sym (map-at _ all i nobody 0 (omega (arith, many)) ∙ rw (at i h))
+          ∙ sym (at-map _ nobody 0 all i (omega (arith, many)) ∙ rw (at i h))

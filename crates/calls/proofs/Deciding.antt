@@ -10,12 +10,13 @@ use lib.ListN.{length, take, getD, set, length-set}
 use lib.Seq.{length-take-le, getD-take, getD-set-same, getD-set-other}
 use lib.Dec.{eqb, ltb}
 use borrow.Author.Tests.{eqb-true, eqb-false, ltb-true, ltb-false}
-use Rattle.rules.specs.Lists.{In, Pairwise}
+use Rattle.rules.specs.Lists.{Pairwise}
 use Rattle.rules.specs.Records.{has, cut}
 use Rattle.rules.specs.Holding.{Rank, better}
 use Rattle.rules.proofs.Tests.{both}
 use Rattle.rules.proofs.Ranks.{better-self, better-trans, better-one}
 use Rattle.calls.specs.Settled.{HasAt, Unbeaten, Decided}
+use Rattle.calls.proofs.Reached.{at-in}
 use Rattle.calls.proofs.Controls.{cut-same, cut-other, cut-not, has-long}
 
 -- Ids that ascend, place by place.
@@ -23,12 +24,7 @@ use Rattle.calls.proofs.Controls.{cut-same, cut-other, cut-not, has-lon
 asc-at : (xs : List ℕ) → Pairwise _<_ xs → (i j : ℕ) → i < j → j < length xs → getD xs i 0 < getD xs j 0
 asc-at [] h i j l k = absurd (omega arith)
 asc-at (x ∷ xs) h i zero l k = absurd (omega arith)
-asc-at (x ∷ xs) h zero (suc j) l k = h .0 (getD xs j 0) (there xs j (omega arith))
-  where
-    there : (xs : List ℕ) (j : ℕ) → j < length xs → In (getD xs j 0) xs
-    there [] j k = absurd (omega arith)
-    there (x ∷ xs) zero k = inl refl
-    there (x ∷ xs) (suc j) k = inr (there xs j (omega arith))
+asc-at (x ∷ xs) h zero (suc j) l k = h .0 (getD xs j 0) (at-in 0 xs j (omega arith))
 asc-at (x ∷ xs) h (suc i) (suc j) l k = asc-at xs (h .1) i j (omega arith) (omega arith)
 
 pub ascending : (n : ℕ) (is : List ℕ) → n ≤ length is → Pairwise _<_ (take n is) → (i j : ℕ) → i < j → j < n → getD is i 0 < getD is j 0

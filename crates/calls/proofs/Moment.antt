@@ -2,8 +2,8 @@
 use mathlib.Core.Path.{_≡_, refl, sym, ap, ap₂, _∙_, subst}
 use mathlib.Core.Logic.{_⊎_, inl, inr, ⊎-elim}
 use Prim.Native.Nat.{ℕ, zero, suc, _+_, _-_, _<_, _≤_}
-use mathlib.Core.Bool.{Bool, true, false, cond, not, _||_}
-use mathlib.Core.List.{List, [], _∷_, _++_, map, append-nil}
+use mathlib.Core.Bool.{Bool, true, false, cond}
+use mathlib.Core.List.{List, [], _∷_, _++_, map, map-append}
 use native.Mathlib.Omega.{arith}
 use lib.Dec.{leb, ltb, eqb}
 use lib.ListN.{length, take, getD, length-take, length-map}
@@ -12,10 +12,10 @@ use borrow.Author.Tests.{leb-true, leb-false, ltb-true, ltb-false, eqb-true, eqb
 use Rattle.rules.specs.declared.Entry.{Entry}
 use Rattle.rules.specs.declared.Event.{Event}
 use Rattle.rules.specs.declared.Program.{Program}
-use Rattle.rules.specs.Lists.{keep, In, All}
+use Rattle.rules.specs.Lists.{keep, All}
 use Rattle.rules.specs.Records.{idOf, noEntry, programAt, cut, join}
 use Rattle.rules.specs.Holding.{rankOf, better, claim, taken, heldAt, Holding, holdingAt, withHolding, endOf}
-use Rattle.rules.specs.Rows.{Row, codeAt, rowOf, rowsWith, rowsFrom, rowsAt, ending, superseded, starting}
+use Rattle.rules.specs.Rows.{codeAt, rowOf, rowsWith, rowsFrom, rowsAt}
 use Rattle.rules.specs.Moments.{lasts}
 use Rattle.rules.proofs.Jump.{Idle}
 use Rattle.rules.proofs.ListLaws.{in-keep}
@@ -23,15 +23,18 @@ use Rattle.calls.specs.declared.columns.Columns.{Columns}
 use Rattle.calls.specs.Columns.{claimOf, codeOf, Claims, Codes, nearest, nextOf, rowIf, codedRows, momentRows}
 use Rattle.calls.specs.Held.{Columned}
 use Rattle.calls.specs.Settled.{Claimant, claimants, takenFrom, settled}
-use Rattle.calls.proofs.Reached.{in-at}
+use Rattle.calls.proofs.Reached.{in-at, at-map}
 use Rattle.calls.proofs.Undropped.{settledAt}
 
 -- Lists place by place.
 
-pub at-map : {A B : Type 0} (f : A → B) (d : A) (e : B) (xs : List A) (k : ℕ) → k < length xs → getD (map f xs) k e ≡ f (getD xs k d)
-at-map f d e [] k l = absurd (omega arith)
-at-map f d e (x ∷ xs) zero l = refl
-at-map f d e (x ∷ xs) (suc k) l = at-map f d e xs k (omega arith)
+pub keep-append : {A : Type 0} (p : A → Bool) (xs ys : List A) → keep p (xs ++ ys) ≡ keep p xs ++ keep p ys
+keep-append p [] ys = refl
+keep-append p (x ∷ xs) ys = go (p x) (keep-append p xs ys)
+  where
+    go : (b : Bool) → keep p (xs ++ ys) ≡ keep p xs ++ keep p ys → cond b (x ∷ keep p (xs ++ ys)) (keep p (xs ++ ys)) ≡ cond b (x ∷ keep p xs) (keep p xs) ++ keep p ys
+    go true ih = ap (_∷_ x) ih
+    go false ih = ih
 
 -- the first n places of an array are a function of a list
 pub front-is : {A : Type 0} (f : A → ℕ) (d : A) (xs : List A) (a : List ℕ) (n : ℕ) → length xs ≡ n → n ≤ length a
@@ -100,19 +103,20 @@ module _ (ps : List Program) (hs us : List Entry) (n : ℕ) (c : Columns) (w : C
   settled-is [] = refl
   settled-is (x ∷ xs) = ap₂ _∷_ (ap (cut (claim t x)) (taken-is x us)) (settled-is xs)
 
-  pub kept-are : (claims kept : List ℕ) → n ≤ length claims → n ≤ length (c .primacies) → n ≤ length (c .created) → n ≤ length (c .ids)
-      → Claims t n (c .stopped) (c .ends) (c .begins) (c .controls) held claims
-      → take n kept ≡ settled (claimants (take n claims) (take n (c .primacies)) (take n (c .created)) (take n (c .ids)))
-      → (k : ℕ) → k < n → getD kept k 0 ≡ heldAt ps t us (at k)
-  unfolding settled
-  kept-are claims kept l1 l2 l3 l4 q e k l =
-      let f1 = front-is (claim t) noEntry us claims n (v .size) l1 (claims-are claims q) in
-      let f2 = front-is (λ h. programAt ps (h .event .program) .primacy) noEntry us (c .primacies) n (v .size) l2 (of-event (λ e. programAt ps (e .program) .primacy) (c .primacies) (w .primacies)) in
-      let f3 = front-is (λ h. h .event .created) noEntry us (c .created) n (v .size) l3 (of-event (λ e. e .created) (c .created) (w .created)) in
-      let f4 = front-is (λ h. idOf (h .event)) noEntry us (c .ids) n (v .size) l4 (of-event idOf (c .ids) (w .ids)) in
-      let all : take n kept ≡ map (heldAt ps t us) us =
-      e ∙ rw (f1, f2, f3, f4, claimants-are us) (settled-is us) in
-      sym (getD-take n kept k 0 l) ∙ ap (λ z. getD z k 0) all ∙ at-map (heldAt ps t us) noEntry 0 us k (omega (arith, v .size))
+  module _ (claims kept : List ℕ) (l1 : n ≤ length claims) (l2 : n ≤ length (c .primacies)) (l3 : n ≤ length (c .created)) (l4 : n ≤ length (c .ids))
+      (q : Claims t n (c .stopped) (c .ends) (c .begins) (c .controls) held claims)
+      (e : take n kept ≡ settled (claimants (take n claims) (take n (c .primacies)) (take n (c .created)) (take n (c .ids)))) where
+    all-kept : take n kept ≡ map (heldAt ps t us) us
+    unfolding settled
+    all-kept =
+        let f1 = front-is (claim t) noEntry us claims n (v .size) l1 (claims-are claims q) in
+        let f2 = front-is (λ h. programAt ps (h .event .program) .primacy) noEntry us (c .primacies) n (v .size) l2 (of-event (λ e. programAt ps (e .program) .primacy) (c .primacies) (w .primacies)) in
+        let f3 = front-is (λ h. h .event .created) noEntry us (c .created) n (v .size) l3 (of-event (λ e. e .created) (c .created) (w .created)) in
+        let f4 = front-is (λ h. idOf (h .event)) noEntry us (c .ids) n (v .size) l4 (of-event idOf (c .ids) (w .ids)) in
+        e ∙ rw (f1, f2, f3, f4, claimants-are us) (settled-is us)
+
+    pub kept-are : (k : ℕ) → k < n → getD kept k 0 ≡ heldAt ps t us (at k)
+    kept-are k l = sym (getD-take n kept k 0 l) ∙ ap (λ z. getD z k 0) all-kept ∙ at-map (heldAt ps t us) noEntry 0 us k (omega (arith, v .size))
 
   -- Rows.
 
@@ -126,18 +130,6 @@ module _ (ps : List Program) (hs us : List Entry) (n : ℕ) (c : Columns) (w : C
       go true e = ap (λ z. record { time = t; id = idOf (h .event); code = z } ∷ []) (sym (eqb-true (codeAt t h (now h)) k e))
       go false e = refl
 
-  pub keep-append : (p : Entry → Bool) (xs ys : List Entry) → keep p (xs ++ ys) ≡ keep p xs ++ keep p ys
-  keep-append p [] ys = refl
-  keep-append p (x ∷ xs) ys = go (p x) (keep-append p xs ys)
-    where
-      go : (b : Bool) → keep p (xs ++ ys) ≡ keep p xs ++ keep p ys → cond b (x ∷ keep p (xs ++ ys)) (keep p (xs ++ ys)) ≡ cond b (x ∷ keep p xs) (keep p xs) ++ keep p ys
-      go true ih = ap (_∷_ x) ih
-      go false ih = ih
-
-  map-append : (xs ys : List Entry) → map (rowOf t now) (xs ++ ys) ≡ map (rowOf t now) xs ++ map (rowOf t now) ys
-  map-append [] ys = refl
-  map-append (x ∷ xs) ys = ap (_∷_ (rowOf t now x)) (map-append xs ys)
-
   module _ (codes : List ℕ) (is-code : (k : ℕ) → k < n → getD codes k 0 ≡ codeAt t (at k) (now (at k))) where
     coded-are : (k i : ℕ) → i ≤ n → codedRows t k i (c .ids) codes ≡ map (rowOf t now) (keep (λ h. eqb (codeAt t h (now h)) k) (take i us))
     unfolding codedRows
@@ -145,7 +137,7 @@ module _ (ps : List Program) (hs us : List Entry) (n : ℕ) (c : Columns) (w : C
     coded-are k (suc i) l =
         let p : Entry → Bool = λ h. eqb (codeAt t h (now h)) k in
         ap₂ _++_ (coded-are k i (omega arith)) (ap₂ (rowIf t k) (of-event idOf (c .ids) (w .ids) i (omega arith)) (is-code i (omega arith)) ∙ one-row k (at i))
-        ∙ sym (map-append (keep p (take i us)) (keep p (at i ∷ [])))
+        ∙ sym (map-append (rowOf t now) (keep p (take i us)) (keep p (at i ∷ [])))
         ∙ ap (map (rowOf t now)) (sym (keep-append p (take i us) (at i ∷ [])))
         ∙ ap (λ l. map (rowOf t now) (keep p l)) (sym (take-suc us i noEntry (omega (arith, v .size))))
 

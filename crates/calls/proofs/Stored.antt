@@ -8,19 +8,20 @@ use Prim.Native.Nat.{ℕ, zero, suc, _+_, _-_, _<_}
 use native.Mathlib.Omega.{arith}
 use borrow.Author.Tests.{eq-eqb, ne-eqb, lt-ltb, le-ltb}
 use lib.ListN.{length, getD, take, drop, set, replicate, take-append-drop, length-set}
-use lib.Seq.{take-take, drop-drop, drop-at, getD-take, set-append-left}
+use lib.Seq.{take-take, drop-drop, getD-take, set-append-left}
 use Rattle.rules.specs.declared.Entry.{Entry}
 use Rattle.rules.specs.declared.Schedule.{Schedule}
-use Rattle.rules.specs.Lists.{insert, In, All, Pairwise}
+use Rattle.rules.specs.Lists.{insert, All, Pairwise}
 use Rattle.rules.specs.Records.{mostEvents, noEntry, view, pad}
 use Rattle.rules.specs.Sound.{sound}
 use Rattle.rules.specs.Refusals.{find}
 use Rattle.rules.specs.Calls.{entryId, mark, withEntries}
 use Rattle.rules.proofs.ListLaws.{insert-length, map-same}
 use Rattle.rules.proofs.Kept.{find-none}
-use Rattle.rules.proofs.SoundState.{ById, sound-view, pad-view}
+use Rattle.rules.proofs.SoundState.{ById, sound-view}
 use Rattle.calls.specs.Found.{Placed}
 use Rattle.calls.proofs.Places.{behind, in-count}
+use Rattle.calls.proofs.Reached.{at-in, rest-unused}
 
 -- an entry goes in at the place of its id
 insert-at : (a : Entry) (hs : List Entry) (at : ℕ) → Placed hs (entryId a) at → All (λ h. entryId h ≡ entryId a → ⊥) hs
@@ -39,30 +40,18 @@ insert-at a (x ∷ xs) (suc k) p n =
 unmarked : (i : ℕ) (h : Entry) → (entryId h ≡ i → ⊥) → mark i h ≡ h
 unmarked i h d = rw (ne-eqb (entryId h) i d)
 
-in-list : (hs : List Entry) (k : ℕ) → k < length hs → In (getD hs k noEntry) hs
-in-list [] k l = absurd (omega arith)
-in-list (x ∷ xs) zero l = inl refl
-in-list (x ∷ xs) (suc k) l = inr (in-list xs k (omega arith))
-
 -- one entry is marked, since the ids differ
 mark-at : (hs : List Entry) (at : ℕ) → Pairwise ById hs → at < length hs
     → map (mark (entryId (getD hs at noEntry))) hs ≡ set hs at (mark (entryId (getD hs at noEntry)) (getD hs at noEntry))
 mark-at [] at s l = absurd (omega arith)
 mark-at (x ∷ xs) zero s l = ap (_∷_ (mark (entryId x) x)) (map-same (mark (entryId x)) xs (λ h m. unmarked (entryId x) h (λ e. let o = s .0 h m in omega arith)))
 mark-at (x ∷ xs) (suc k) s l =
-    let o = s .0 (getD xs k noEntry) (in-list xs k (omega arith)) in
+    let o = s .0 (getD xs k noEntry) (at-in noEntry xs k (omega arith)) in
     rw (unmarked (entryId (getD xs k noEntry)) x (λ e. omega arith)) (ap (_∷_ x) (mark-at xs k (s .1) (omega arith)))
 
 module _ (s : Schedule) (e : sound s ≡ true) where
   abbrev hs : List Entry
   hs = view s .entries
-
-  -- what is not in use is zero
-  unused : drop (s .count) (s .entries) ≡ replicate (mostEvents - s .count) noEntry
-  unused =
-      ap (λ z. drop (s .count) (z .entries)) (sym (pad-view s e))
-      ∙ drop-at hs (replicate (mostEvents - length hs) noEntry) (s .count) (in-count s e)
-      ∙ ap (λ n. replicate (mostEvents - n) noEntry) (in-count s e)
 
   -- the schedule that a list says
   says : (ls : List Entry) (n : ℕ) → length ls ≡ n → drop n (s .entries) ≡ replicate (mostEvents - n) noEntry
@@ -83,7 +72,7 @@ module _ (s : Schedule) (e : sound s ≡ true) where
       let next : mostEvents - s .count ≡ suc (mostEvents - (s .count + 1)) = omega arith in
       rw (← take-take at (s .count) (s .entries) (omega (arith, p .within, in-count s e)), ← new)
       (says (insert entryId a hs) (s .count + 1) (insert-length entryId a hs ∙ omega (arith, in-count s e))
-      (sym (drop-drop 1 (s .count) (s .entries)) ∙ ap (drop 1) unused ∙ rw next))
+      (sym (drop-drop 1 (s .count) (s .entries)) ∙ ap (drop 1) (rest-unused s e) ∙ rw next))
 
   -- as `stopped` leaves the entries
   pub put-over : (at : ℕ) → at < s .count → let h = getD (s .entries) at noEntry in
@@ -102,4 +91,4 @@ module _ (s : Schedule) (e : sound s ≡ true) where
       let split : set (s .entries) at m ≡ set hs at m ++ drop (s .count) (s .entries) =
       ap (λ z. set z at m) (sym (take-append-drop (s .count) (s .entries))) ∙ set-append-left hs (drop (s .count) (s .entries)) at m (omega (arith, in-count s e)) in
       rw (marked, split, mark-at hs at (sound-view s e .ids) (omega (arith, in-count s e)))
-      (says (set hs at m) (s .count) (length-set hs at m ∙ in-count s e) unused)
+      (says (set hs at m) (s .count) (length-set hs at m ∙ in-count s e) (rest-unused s e))

@@ -6,7 +6,7 @@ ghost use mathlib.Core.Option.{none};
 ghost use Prim.Native.Nat.{_+_, _≤_, _<_};
 ghost use lib.ListN.{getD, take, drop};
 ghost use Rattle.rules.specs.Records.{mostEvents, lastClock, idOf, noEntry, view, pad};
-ghost use Rattle.rules.specs.Sound.{sound, sameEvent};
+ghost use Rattle.rules.specs.Sound.{sound};
 ghost use Rattle.rules.specs.Refusals.{late, find, firstOf};
 ghost use Rattle.rules.specs.Calls.{call, deliver, cancel, checks, receive, entryId, mark, withEntries};
 ghost use Rattle.calls.specs.Answered.{outcomeOf};
@@ -57,22 +57,6 @@ fn place_of(s: Schedule, id: Id) -> Place
     }
 }
 
-// Whether two events are the same in every field.
-fn same(a: Event, b: Event) -> bool
-    ensures { λ r. ⌜ r ≡ sameEvent a b ⌝ }
-{
-    (a.id.value == b.id.value)
-        & (a.program == b.program)
-        & (a.controls == b.controls)
-        & (a.created == b.created)
-        & (a.start == b.start)
-        & (a.duration == b.duration)
-        & (a.randomize_start == b.randomize_start)
-        & (a.randomize_duration == b.randomize_duration)
-        & (a.start_draw == b.start_draw)
-        & (a.duration_draw == b.duration_draw)
-}
-
 // Numbers given, 9.
 fn is_late(e: Event, clock: u64) -> bool
     requires { ⌜ clock ≤ lastClock ⌝ }
@@ -102,7 +86,7 @@ fn number(s: Schedule, e: Event, p: Place) -> u8
     if p.held {
         let at = p.at;
         let h = s.entries[at];
-        if same(h.event, e) {
+        if h.event.equals(e) {
             return 0;
         }
         return 8;

@@ -1,37 +1,10 @@
 // After the last moment: the masks go back into the entries, and what has ended is dropped.
 ghost use mathlib.Core.Path.{_≡_};
-ghost use Prim.Native.Nat.{_≤_};
 ghost use mathlib.Core.Bool.{true};
-ghost use Rattle.rules.specs.Records.{noEntry};
 ghost use Rattle.rules.specs.Sound.{sound};
 ghost use Rattle.calls.specs.Finished.{finished};
 use rules::Entry;
-use rules::Event;
-use rules::Id;
 use rules::Schedule;
-
-// A place that is not in use.
-pub(crate) fn no_entry() -> Entry
-    ensures { λ r. ⌜ r ≡ noEntry ⌝ }
-{
-    Entry {
-        event: Event {
-            id: Id { value: 0 },
-            program: 0,
-            controls: 0,
-            created: 0,
-            start: 0,
-            duration: 0,
-            randomize_start: 0,
-            randomize_duration: 0,
-            start_draw: 0,
-            duration_draw: 0,
-        },
-        begins: 0,
-        held: 0,
-        cancelled: false,
-    }
-}
 
 pub(crate) fn finish(from: Schedule, to: u64, ends: &[u64; 48], held: &[u32; 48]) -> Schedule
     requires { ⌜ sound from ≡ true ⌝ }
@@ -39,7 +12,7 @@ pub(crate) fn finish(from: Schedule, to: u64, ends: &[u64; 48], held: &[u32; 48]
 {
     let mut s = from;
     let n = s.count;
-    let none = no_entry();
+    let none = Entry::none();
     let mut k = 0;
     let mut d = 0;
     while d < n {

@@ -7,34 +7,14 @@ ghost use lib.Dec.{eqb, ltb};
 ghost use lib.ListN.{take, drop};
 ghost use Rattle.rules.specs.declared.Program.{Program};
 ghost use Rattle.rules.specs.Lists.{each};
-ghost use Rattle.rules.specs.Records.{idOf, cut, mostEvents, noEvent, programAt};
-ghost use Rattle.rules.specs.Sound.{sameEvent, soundProgram, unused, inPeriod, lasting, carried, heldSinceStart, noneIfCancelled, soundEntry, sound};
+ghost use Rattle.rules.specs.Records.{idOf, cut, mostEvents, programAt};
+ghost use Rattle.rules.specs.Sound.{soundProgram, unused, inPeriod, lasting, carried, heldSinceStart, noneIfCancelled, soundEntry, sound};
 ghost use Rattle.calls.specs.HeldRules.{heldRules};
 use rules::Entry;
 use rules::Event;
-use rules::Id;
 use rules::Primacy;
 use rules::Program;
 use rules::Schedule;
-
-// Tests joined: both, or either of two.
-pub(crate) fn both(a: bool, b: bool) -> bool
-    ensures { λ r. ⌜ r ≡ a && b ⌝ }
-{
-    if a {
-        return b;
-    }
-    false
-}
-
-pub(crate) fn either(a: bool, b: bool) -> bool
-    ensures { λ r. ⌜ r ≡ a || b ⌝ }
-{
-    if a {
-        return true;
-    }
-    b
-}
 
 // Where a program stands: at its number. A number that is refused gets a place as well, so that every index is within the array.
 pub(crate) fn place(program: u8) -> usize
@@ -46,53 +26,11 @@ pub(crate) fn place(program: u8) -> usize
     0
 }
 
-// Whether two events are the same in every field.
-pub(crate) fn is_same_event(a: Event, b: Event) -> bool
-    ensures { λ r. ⌜ r ≡ sameEvent a b ⌝ }
-{
-    let id = a.id;
-    let source = both(id.equals(b.id), a.program == b.program);
-    let what = both(
-        both(source, a.controls == b.controls),
-        a.created == b.created,
-    );
-    let times = both(both(what, a.start == b.start), a.duration == b.duration);
-    let ranges = both(
-        both(times, a.randomize_start == b.randomize_start),
-        a.randomize_duration == b.randomize_duration,
-    );
-    both(
-        both(ranges, a.start_draw == b.start_draw),
-        a.duration_draw == b.duration_draw,
-    )
-}
-
-// An event of zeros.
-fn no_event() -> Event
-    ensures { λ r. ⌜ r ≡ noEvent ⌝ }
-{
-    let id = Id { value: 0 };
-    Event {
-        id,
-        program: 0,
-        controls: 0,
-        created: 0,
-        start: 0,
-        duration: 0,
-        randomize_start: 0,
-        randomize_duration: 0,
-        start_draw: 0,
-        duration_draw: 0,
-    }
-}
-
 // An unused event place is zero.
 fn is_unused(h: Entry) -> bool
     ensures { λ r. ⌜ r ≡ unused h ⌝ }
 {
-    let e = h.event;
-    let none = is_same_event(e, no_event());
-    both(none, both(h.begins == 0, both(h.held == 0, !h.cancelled)))
+    h.event.equals(Event::none()) & ((h.begins == 0) & ((h.held == 0) & !h.cancelled))
 }
 
 // A program that was added has a primacy that may be used; an unused place is zero.
@@ -106,54 +44,39 @@ fn is_sound_program(p: Program) -> bool
             Primacy::Reserved => false,
         };
     }
-    both(p.primacy == 0, p.defaults == 0)
+    (p.primacy == 0) & (p.defaults == 0)
 }
 
 // The effective start is within the period, and the effective end after the clock.
 fn is_in_period(h: Entry, clock: u64) -> bool
     ensures { λ r. ⌜ r ≡ inPeriod h && lasting clock h ⌝ }
 {
-    let e = h.event;
-    let start = e.drawn_start();
-    let end = e.effective_end();
-    both(
-        both(start.time <= h.begins, h.begins < end.time),
-        clock < end.time,
-    )
+    let start = h.event.drawn_start();
+    let end = h.event.effective_end();
+    (start.time <= h.begins) & (h.begins < end.time) & (clock < end.time)
 }
 
 // The held mask is within the controls, and zero before the start and if the event is cancelled.
 fn is_rightly_held(h: Entry, clock: u64) -> bool
     ensures { λ r. ⌜ r ≡ carried h && (heldSinceStart clock h && noneIfCancelled h) ⌝ }
 {
-    let e = h.event;
-    let none = h.held == 0;
-    both(
-        h.held ^ (h.held & e.controls) == 0,
-        both(either(h.begins <= clock, none), either(!h.cancelled, none)),
-    )
+    (h.held ^ (h.held & h.event.controls) == 0)
+        & (((h.begins <= clock) | (h.held == 0)) & (!h.cancelled | (h.held == 0)))
 }
 
 // The rules of one entry by itself; `p` is its program, if its number is one.
 fn is_sound_entry(h: Entry, p: Program, clock: u64) -> bool
     ensures { λ r. ⌜ ((ps : List Program) → (h .event .program ≤ 7 → programAt ps (h .event .program) ≡ p) → r ≡ soundEntry ps clock h) ⌝ }
 {
-    let e = h.event;
-    let times = both(is_in_period(h, clock), is_rightly_held(h, clock));
-    let program = both(e.program <= 7, p.added);
-    both(program, both(!e.is_malformed(), times))
+    ((h.event.program <= 7) & p.added)
+        & (!h.event.is_malformed() & (is_in_period(h, clock) & is_rightly_held(h, clock)))
 }
 
 // An entry with those after it: `next` is the id of the first if there are any, `used` all that they hold.
 fn is_before(h: Entry, more: bool, next: u64, used: u32) -> bool
     ensures { λ r. ⌜ r ≡ (not more || ltb (idOf (h .event)) next) && eqb (cut (h .held) used) (h .held) ⌝ }
 {
-    let e = h.event;
-    let id = e.id;
-    both(
-        either(!more, id.value < next),
-        h.held ^ (h.held & used) == h.held,
-    )
+    (!more | (h.event.id.value < next)) & (h.held ^ (h.held & used) == h.held)
 }
 
 fn has_sound_programs(s: Schedule) -> bool
@@ -194,15 +117,11 @@ fn has_sound_entries(s: Schedule) -> bool
     while 0 < i {
         i -= 1;
         let h = s.entries[i];
-        let e = h.event;
-        let id = e.id;
-        let k = place(e.program);
-        let p = s.programs[k];
-        let own = is_sound_entry(h, p, clock);
-        ok = both(own, both(is_before(h, more, next, used), ok));
+        let p = s.programs[place(h.event.program)];
+        ok = is_sound_entry(h, p, clock) & (is_before(h, more, next, used) & ok);
         used = h.held | used;
         more = true;
-        next = id.value;
+        next = h.event.id.value;
     }
     ok
 }
@@ -211,12 +130,8 @@ fn has_sound_entries(s: Schedule) -> bool
 pub(crate) fn is_sound(s: Schedule) -> bool
     ensures { λ r. ⌜ r ≡ sound s ⌝ }
 {
-    let limits = both(s.clock <= Schedule::LAST_CLOCK, s.count <= Schedule::EVENTS);
-    if !limits {
-        return false;
+    if (s.clock <= Schedule::LAST_CLOCK) & (s.count <= Schedule::EVENTS) {
+        return has_sound_programs(s) & (has_unused_rest(s) & has_sound_entries(s));
     }
-    both(
-        has_sound_programs(s),
-        both(has_unused_rest(s), has_sound_entries(s)),
-    )
+    false
 }

@@ -74,7 +74,7 @@ not-two s (ask k) e = not-given (askChecks k) refl e
 not-two s (list r) e = not-given (listChecks (length (s .entries)) (length r)) refl e
 
 -- an accepted call on a sound schedule
-done : (s : Schedule) → sound s ≡ true → (c : Call) → firstOf (checks (view s) c) ≡ 0 → call s c ≡ accepted (does (view s) c)
+pub done : (s : Schedule) → sound s ≡ true → (c : Call) → firstOf (checks (view s) c) ≡ 0 → call s c ≡ accepted (does (view s) c)
 unfolding call refusal
 done s e c z = rw (e, z)
 

@@ -14,7 +14,6 @@ ghost use Rattle.rules.specs.Table.{table};
 ghost use Rattle.rules.specs.Edges.{edges};
 ghost use Rattle.rules.specs.Example.{exampleInput, exampleOutput};
 
-pub mod logic;
 mod times;
 
 // Records. An id: the host's handle of an event. Definitions read it as one number.

@@ -1,18 +1,16 @@
 // Events by value: ids compared, times worked out, fields checked.
 ghost use mathlib.Core.Path.{_≡_};
-ghost use Prim.Native.Nat.{ℕ, _+_, _<_, _^_, min, max};
+ghost use Prim.Native.Nat.{_+_, _<_, _^_, min, max};
 ghost use lib.Dec.{eqb, ltb};
-ghost use mathlib.Core.Bool.{not};
 ghost use Rattle.rules.specs.Records.{primacyIs, lastClock};
-ghost use Rattle.rules.specs.Period.{lift, plus, drawnStart, effectiveEnd, effectiveStart, periodOf, dated};
-ghost use Rattle.rules.specs.Sound.{outside, drawn, outOfRange, malformed};
+ghost use Rattle.rules.specs.Period.{lift, plus, drawnStart, effectiveEnd, periodOf, dated};
+ghost use Rattle.rules.specs.Sound.{outside, drawn, outOfRange, malformed, sameEvent};
 use crate::Dated;
 use crate::Event;
 use crate::Id;
 use crate::Period;
 use crate::Primacy;
 use crate::Schedule;
-use crate::logic;
 
 impl Id {
     pub fn equals(self, other: Id) -> bool
@@ -82,7 +80,7 @@ pub(crate) fn is_outside(r: u16) -> bool
     ensures { λ x. ⌜ x ≡ outside r ⌝ }
 {
     let y = lifted(r);
-    logic::either(y < 32768 - 3600, 32768 + 3600 < y)
+    (y < 32768 - 3600) | (32768 + 3600 < y)
 }
 
 // Effective period, draw: between 0 and its randomisation.
@@ -91,34 +89,44 @@ pub(crate) fn is_drawn(r: u16, d: u16) -> bool
 {
     let y = lifted(r);
     let z = lifted(d);
-    logic::both(earlier(y, 32768) <= z, z <= later(y, 32768))
+    (earlier(y, 32768) <= z) & (z <= later(y, 32768))
 }
 
 // Numbers given, 7: the conditions on single fields.
 pub(crate) fn is_out_of_range(e: Event) -> bool
     ensures { λ x. ⌜ x ≡ outOfRange e ⌝ }
 {
-    let fields = logic::either(
-        logic::either(e.controls == 0, e.start < 3600),
-        e.duration == 0,
-    );
-    let randomisations = logic::either(
-        logic::either(fields, is_outside(e.randomize_start)),
-        is_outside(e.randomize_duration),
-    );
-    let start = logic::either(randomisations, !is_drawn(e.randomize_start, e.start_draw));
-    logic::either(start, !is_drawn(e.randomize_duration, e.duration_draw))
+    (e.controls == 0)
+        | (e.start < 3600)
+        | (e.duration == 0)
+        | is_outside(e.randomize_start)
+        | is_outside(e.randomize_duration)
+        | !is_drawn(e.randomize_start, e.start_draw)
+        | !is_drawn(e.randomize_duration, e.duration_draw)
 }
 
 impl Event {
+    // Whether two events are the same in every field.
+    pub fn equals(self, other: Event) -> bool
+        ensures { λ r. ⌜ r ≡ sameEvent self other ⌝ }
+    {
+        (self.id.value == other.id.value)
+            & (self.program == other.program)
+            & (self.controls == other.controls)
+            & (self.created == other.created)
+            & (self.start == other.start)
+            & (self.duration == other.duration)
+            & (self.randomize_start == other.randomize_start)
+            & (self.randomize_duration == other.randomize_duration)
+            & (self.start_draw == other.start_draw)
+            & (self.duration_draw == other.duration_draw)
+    }
+
     // Numbers given, 7: whether a field or a draw is outside its range, or the drawn duration below 1.
     pub fn is_malformed(self) -> bool
         ensures { λ r. ⌜ r ≡ malformed self ⌝ }
     {
-        logic::either(
-            is_out_of_range(self),
-            self.duration as u64 + lifted(self.duration_draw) < 32768 + 1,
-        )
+        is_out_of_range(self) | (self.duration as u64 + lifted(self.duration_draw) < 32768 + 1)
     }
 
     // Effective period, drawn start.

@@ -1,5 +1,5 @@
 -- 11 if the id is not held. Else its entry is marked, and the answer says whether it was before.
-use mathlib.Core.Path.{_≡_, refl}
+use mathlib.Core.Path.{_≡_, refl, sym}
 use mathlib.Core.Bool.{true, cond}
 use mathlib.Core.List.{[]}
 use Prim.Native.Nat.{_<_, _≤_}
@@ -11,8 +11,9 @@ use lib.Seq.{getD-take}
 use Rattle.rules.specs.Records.{mostEvents, noEntry}
 use Rattle.rules.specs.Refusals.{cancelChecks}
 use Rattle.rules.specs.Calls.{cancel, code, does, checks, call}
+use Rattle.rules.proofs.CallLaws.{done}
 use Rattle.calls.proofs.Places.{found, inside}
-use Rattle.calls.proofs.Answers.{given, done}
+use Rattle.calls.proofs.Answers.{given}
 use Rattle.calls.proofs.events.cancel.Statement.{statement}
 use Rattle.calls.proofs.events.cancel.Tie as tie
 
@@ -50,7 +51,7 @@ marked c =
     let h = held (c .before .before) in
     let old = found s (start .pre) (place .ensures) in
     rw (c .stopped .ensures, place .ensures .held h .1, ← getD-take (s .count) (s .entries) (place .result .at) noEntry (there (c .before .before) .0))
-    (rw (old, h) at (done s (start .pre) (cancel (start .args .id .value)) (rw (old, h))))
+    (rw (old, h) at (sym (done s (start .pre) (cancel (start .args .id .value)) (rw (old, h)))))
 
 returns-2 : tie.Need-returns-2
 returns-2 c = rw (c .if2 .taken) at (marked (c .before))

@@ -11,7 +11,8 @@ use Rattle.rules.specs.declared.Entry.{Entry}
 use Rattle.rules.specs.Records.{State, noEntry, view}
 use Rattle.rules.specs.Calls.{Done, deliver, code, received, receive, does, accepted, call}
 use Rattle.rules.proofs.SoundState.{pad-view}
-use Rattle.calls.proofs.Answers.{given, done, room}
+use Rattle.rules.proofs.CallLaws.{done}
+use Rattle.calls.proofs.Answers.{given, room}
 use Rattle.calls.proofs.Places.{found}
 use Rattle.calls.proofs.events.deliver.Statement.{statement}
 use Rattle.calls.proofs.events.deliver.Tie as tie
@@ -33,7 +34,7 @@ unfolding does
 acts c b q =
     let start = c .before .before .before in
     let s = start .args .s in
-    rw (found s (start .pre) (c .before .before .place-of .ensures), q) at (done s (start .pre) (deliver (start .args .e)) (sym (c .before .number .ensures) ∙ c .if1 .left))
+    rw (found s (start .pre) (c .before .before .place-of .ensures), q) at (sym (done s (start .pre) (deliver (start .args .e)) (sym (c .before .number .ensures) ∙ c .if1 .left)))
 
 returns-2 : tie.Need-returns-2
 returns-2 c =

@@ -55,12 +55,12 @@ past c b q =
 there : (c : tie.Then4) → let a = c .before .before .before .before .before .before .before .before .before .args in (a .p .at < a .t1 .count) × (a .t1 .count ≤ mostEvents)
 there c = let start = c .before .before .before .before .before .before .before .before .before in inside (start .args .t1) (start .pre .0) (start .pre .1) (c .if4 .taken)
 
-compared : (c : tie.After-same) → let a = c .before .before .before .before .before .before .before .before .before .before .before .args in
-    firstOf (checks (view (a .t1)) (deliver (a .e))) ≡ cond (not (c .same .result)) 8 0
+compared : (c : tie.After-equals) → let a = c .before .before .before .before .before .before .before .before .before .before .before .args in
+    firstOf (checks (view (a .t1)) (deliver (a .e))) ≡ cond (not (c .equals .result)) 8 0
 compared c =
     let a = c .before .before .before .before .before .before .before .before .before .before .before .args in
     past (c .before .before .before) true (c .before .before .if4 .taken)
-    ∙ rw (getD-take (a .t1 .count) (a .t1 .entries) (a .p .at) noEntry (there (c .before .before) .0), sym (c .same .ensures))
+    ∙ rw (getD-take (a .t1 .count) (a .t1 .entries) (a .p .at) noEntry (there (c .before .before) .0), sym (c .equals .ensures))
 
 returns-4 : tie.Need-returns-4
 returns-4 c = sym (compared (c .before) ∙ rw (c .if5 .taken))

@@ -1,14 +1,13 @@
 -- The loop has moved the first d entries.
-use mathlib.Core.Path.{_≡_, refl, sym, ap, _∙_, subst}
+use mathlib.Core.Path.{_≡_, refl, ap, _∙_, subst}
 use mathlib.Core.Logic.{⊎-elim}
-use Prim.Native.Nat.{ℕ, _+_, _-_, _≤_, _<_}
+use Prim.Native.Nat.{_-_, _≤_}
 use native.Mathlib.Omega.{arith}
 use borrow.Author.Needs.{needs}
 use lib.ListN.{length, getD, set, length-set}
 use Rattle.rules.specs.declared.Entry.{Entry}
 use Rattle.rules.specs.Records.{noEntry}
 use Rattle.rules.proofs.SoundState.{rules}
-use Rattle.calls.specs.Finished.{lastingOf}
 use Rattle.calls.proofs.Finishing.{Moved, none-moved, dropped-now, kept-now, all-moved}
 use Rattle.calls.proofs.Reached.{rest-unused}
 use Rattle.calls.proofs.finish.finish.Statement.{statement}
@@ -25,7 +24,7 @@ loop-holds : tie.Need-loop-holds Inv-loop μ-loop
 loop-holds c =
     let s = c .before .args .from in
     let r = rules s (c .before .pre) in
-    (omega arith, refl, r .count, r .full, r .full, refl, c .no-entry .ensures, none-moved (c .before .args .to) (s .entries) (c .before .args .ends .now) (c .before .args .held .now))
+    (omega arith, refl, r .count, r .full, r .full, refl, c .none .ensures, none-moved (c .before .args .to) (s .entries) (c .before .args .ends .now) (c .before .args .held .now))
 
 loop-again : tie.Need-loop-again Inv-loop μ-loop
 loop-again c =
@@ -40,7 +39,7 @@ loop-again c =
       refl,
       v .2,
       v .3,
-      ap (λ s. length (s .entries)) (w .2) ∙ length-set (set (l .s .entries) (l .d) (c .before .before .before .before .before .before .no-entry .result)) (l .k) it ∙ length-set (l .s .entries) (l .d) (c .before .before .before .before .before .before .no-entry .result) ∙ v .4,
+      ap (λ s. length (s .entries)) (w .2) ∙ length-set (set (l .s .entries) (l .d) (c .before .before .before .before .before .before .none .result)) (l .k) it ∙ length-set (l .s .entries) (l .d) (c .before .before .before .before .before .before .none .result) ∙ v .4,
       ap (λ s. s .programs) (w .2) ∙ v .5,
       v .6,
       rw (w .2, w .3) (kept-now (a .to) (l .d) hs (a .ends .now) (a .held .now) (l .s .entries) (l .k) (v .7) (omega arith) _ (v .6) (w .0 .taken)),
@@ -50,7 +49,7 @@ loop-again c =
       refl,
       v .2,
       v .3,
-      ap (λ s. length (s .entries)) (w .1) ∙ length-set (l .s .entries) (l .d) (c .before .before .before .before .before .before .no-entry .result) ∙ v .4,
+      ap (λ s. length (s .entries)) (w .1) ∙ length-set (l .s .entries) (l .d) (c .before .before .before .before .before .before .none .result) ∙ v .4,
       ap (λ s. s .programs) (w .1) ∙ v .5,
       v .6,
       rw (w .1, w .2) (dropped-now (a .to) (l .d) hs (a .ends .now) (a .held .now) (l .s .entries) (l .k) (v .7) (omega arith) _ (v .6) (w .0 .left)),

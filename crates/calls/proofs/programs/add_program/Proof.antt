@@ -1,11 +1,12 @@
 -- Each return has the tests that led there; an accepted program is the schedule with one place set.
-use mathlib.Core.Path.{refl, ap, _∙_}
+use mathlib.Core.Path.{sym, refl, ap, _∙_}
 use mathlib.Core.List.{[]}
 use borrow.Author.Needs.{needs}
 use borrow.Author.Tests.{lt-ltb, le-ltb}
 use Rattle.rules.specs.Refusals.{programChecks}
 use Rattle.rules.specs.Calls.{addProgram, code, programOf, does, checks}
-use Rattle.calls.proofs.Answers.{given, done}
+use Rattle.rules.proofs.CallLaws.{done}
+use Rattle.calls.proofs.Answers.{given}
 use Rattle.calls.proofs.Adding.{arm, stored}
 use Rattle.calls.proofs.programs.add_program.Statement.{statement}
 use Rattle.calls.proofs.programs.add_program.Tie as tie
@@ -37,8 +38,8 @@ returns-4 c =
     let d = c .before .before .before .before .before .before in
     let a = d .args in
     ap (λ z. record { number = 0; value = code 0; state = z; bytes = []; records = [] }) (stored (a .t1) (d .pre) (a .number) (programOf (a .primacy) (a .defaults)))
-    ∙ done (a .t1) (d .pre) (addProgram (a .number) (a .primacy) (a .defaults))
-    (rw (le-ltb 7 (a .number) (c .before .before .before .before .before .if1 .left), c .before .before .before .if2 .left, arm _ _ _ (c .enum-told .given .1) (c .before .before .of .ensures)))
+    ∙ sym (done (a .t1) (d .pre) (addProgram (a .number) (a .primacy) (a .defaults))
+    (rw (le-ltb 7 (a .number) (c .before .before .before .before .before .if1 .left), c .before .before .before .if2 .left, arm _ _ _ (c .enum-told .given .1) (c .before .before .of .ensures))))
 
 pub add-program-spec : {M : Type 1} → statement M
 add-program-spec =

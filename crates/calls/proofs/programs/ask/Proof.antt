@@ -10,7 +10,8 @@ use Rattle.rules.specs.Refusals.{askChecks}
 use Rattle.rules.specs.Calls.{Outcome, Value, valueOf, ask, holderIn, answerFor, does, checks}
 use Rattle.rules.specs.declared.Schedule.{Schedule}
 use Rattle.rules.proofs.SoundState.{rules, pad-view}
-use Rattle.calls.proofs.Answers.{given, done}
+use Rattle.rules.proofs.CallLaws.{done}
+use Rattle.calls.proofs.Answers.{given}
 use Rattle.calls.proofs.programs.ask.Statement.{statement}
 use Rattle.calls.proofs.programs.ask.Tie as tie
 
@@ -30,7 +31,7 @@ returns-2 c =
     let a = d .args in
     ap (λ n. answered n (valueOf (c .holder-or .result)) (a .s)) (c .holder-or .ensures .0)
     ∙ ap₂ (answered 0) (c .holder-or .ensures .1 ∙ ap (holderIn (a .control) (view (a .s) .entries)) (c .before .default-of .ensures .1)) (sym (pad-view (a .s) (d .pre)))
-    ∙ done (a .s) (d .pre) (ask (a .control)) (rw (le-ltb 31 (a .control) (c .before .before .if1 .left)))
+    ∙ sym (done (a .s) (d .pre) (ask (a .control)) (rw (le-ltb 31 (a .control) (c .before .before .if1 .left))))
 
 pub ask-spec : {M : Type 1} → statement M
 ask-spec =

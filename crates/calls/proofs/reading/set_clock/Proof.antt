@@ -17,7 +17,8 @@ use Rattle.rules.specs.Refusals.{clockChecks}
 use Rattle.rules.specs.Calls.{Outcome, setClock, count, does, checks, call}
 use Rattle.rules.proofs.Bound.{few-rows}
 use Rattle.calls.specs.Advanced.{Advanced}
-use Rattle.calls.proofs.Answers.{given, done}
+use Rattle.rules.proofs.CallLaws.{done}
+use Rattle.calls.proofs.Answers.{given}
 use Rattle.calls.proofs.Copying.{over-length}
 use Rattle.calls.proofs.reading.set_clock.Statement.{statement}
 use Rattle.calls.proofs.reading.set_clock.Tie as tie
@@ -28,7 +29,7 @@ fits : (s : Schedule) → sound s ≡ true → (t : ℕ) (b rows : List ℕ) (ne
 unfolding checks clockChecks does
 fits s e t b rows next n l m w h =
     (λ i. record { number = 0; value = count (w .rows i); state = w .schedule i; bytes = over (w .written i) b; records = [] })
-    ∙ done s e (setClock t b) (rw (le-ltb t (s .clock) l, le-ltb lastClock t m, le-ltb (length b) (17 * length (passed (view s) t .rows)) (omega (arith, w .rows))))
+    ∙ sym (done s e (setClock t b) (rw (le-ltb t (s .clock) l, le-ltb lastClock t m, le-ltb (length b) (17 * length (passed (view s) t .rows)) (omega (arith, w .rows)))))
 
 -- there are at most 96 rows
 few : (s : Schedule) → sound s ≡ true → (t : ℕ) (rows : List ℕ) (next : Schedule) (n : ℕ) → Advanced s t rows next n → n ≤ 96

@@ -24,8 +24,8 @@ loop-holds c =
 loop-again : tie.Need-loop-again Inv-loop μ-loop
 unfolding join
 loop-again c =
-    let own = c .before .before .before .before in
-    let head = own .before .before .before .before .before .before .before in
+    let own = c .before .before in
+    let head = own .before .before .before .before .before in
     let l = head .loop in
     let s = head .before .args .t1 in
     let place = own .before .before .place .ensures .1 in (
@@ -33,9 +33,7 @@ loop-again c =
       l .inv .1,
       turn (s .programs) (s .clock) (s .count) (l .i) (s .entries) noEntry (omega arith) (omega arith) (omega arith)
           (own .is-sound-entry .ensures (s .programs) (λ small. ap (programAt (s .programs)) (sym (place small))))
-          (c .before .before .before .is-before .ensures)
-          (c .before .before .both .ensures)
-          (c .before .both2 .ensures)
+          (c .before .is-before .ensures)
           (l .inv .2),
     )
 
@@ -58,8 +56,6 @@ has-sound-entries-spec =
     (λ c κs. omega arith)
     (λ c. omega arith)
     (λ c. omega arith)
-    (λ c κs. omega arith)
-    (λ c κs. omega arith)
     (λ c κs. omega arith)
     (λ c κs. omega arith)
     (λ c. omega arith)

@@ -1,5 +1,5 @@
--- The three tests, joined.
-use borrow.Author.Needs.{needs}
+-- The code is the definitions.
+use mathlib.Core.Path.{refl}
 use Rattle.rules.specs.Records.{cut}
 use Rattle.rules.specs.Sound.{carried, heldSinceStart, noneIfCancelled}
 use Rattle.calls.proofs.sound.is_rightly_held.Statement.{statement}
@@ -7,7 +7,7 @@ use Rattle.calls.proofs.sound.is_rightly_held.Tie as tie
 
 returns : tie.Need-returns
 unfolding cut carried heldSinceStart noneIfCancelled
-returns c = cc
+returns c = refl
 
 pub is-rightly-held-spec : {M : Type 1} → statement M
-is-rightly-held-spec = tie.close (tie.spec (λ c κs. search needs) (λ c κs. search needs) (λ c κs. search needs) (λ c κs. search needs) returns)
+is-rightly-held-spec = tie.close (tie.spec returns)

@@ -1,5 +1,5 @@
 -- The rules of the definition in their order. The program is looked up only where its number is one.
-use mathlib.Core.Path.{_≡_, refl, _∙_}
+use mathlib.Core.Path.{_≡_, refl}
 use Prim.Native.Nat.{_≤_}
 use mathlib.Core.Bool.{Bool, true, false, _&&_, and-assoc}
 use mathlib.Core.List.{List}
@@ -25,21 +25,14 @@ looked-up ps p h f = go (leb (h .event .program) 7) refl
 returns : tie.Need-returns
 unfolding soundEntry wellFormed
 returns c ps f =
-    let c2 = c .before .before .before in
-    let c1 = c2 .before .before in
-    c .both4 .ensures
-    ∙ rw (
-      c .before .both3 .ensures,
+    let start = c .before .before .before .before .before in
+    rw (
+      c .is-rightly-held .ensures,
+      c .before .is-in-period .ensures,
       c .before .before .is-malformed .ensures,
-      c2 .both2 .ensures,
-      c1 .both .ensures,
-      c1 .before .is-rightly-held .ensures,
-      c1 .before .before .is-in-period .ensures,
-      looked-up ps (c1 .before .before .before .before .args .p) (c1 .before .before .before .before .args .h) f,
+      looked-up ps (start .args .p) (start .args .h) f,
       and-assoc,
     )
 
 pub is-sound-entry-spec : {M : Type 1} → statement M
-is-sound-entry-spec =
-    tie.close
-    (tie.spec (λ c κs. search needs) (λ c κs. search needs) (λ c κs. search needs) (λ c κs. search needs) (λ c κs. search needs) (λ c κs. search needs) (λ c κs. search needs) returns)
+is-sound-entry-spec = tie.close (tie.spec (λ c κs. search needs) (λ c κs. search needs) (λ c κs. search needs) returns)

@@ -1,5 +1,4 @@
 -- The event is compared with the empty one, the other fields with 0.
-use mathlib.Core.Path.{_∙_}
 use borrow.Author.Needs.{needs}
 use Rattle.rules.specs.Sound.{unused}
 use Rattle.calls.proofs.sound.is_unused.Statement.{statement}
@@ -7,9 +6,7 @@ use Rattle.calls.proofs.sound.is_unused.Tie as tie
 
 returns : tie.Need-returns
 unfolding unused
-returns c =
-    let b = c .before .before .before .before .before .before in
-    c .both3 .ensures ∙ rw (c .before .both2 .ensures, c .before .before .both .ensures, b .is-same-event .ensures, b .before .no-event .ensures)
+returns c = let b = c .before .before .before in rw (b .equals .ensures, b .before .none .ensures)
 
 pub is-unused-spec : {M : Type 1} → statement M
-is-unused-spec = tie.close (tie.spec (λ c κs. search needs) (λ c κs. search needs) (λ c κs. search needs) (λ c κs. search needs) (λ c κs. search needs) returns)
+is-unused-spec = tie.close (tie.spec (λ c κs. search needs) (λ c κs. search needs) returns)
