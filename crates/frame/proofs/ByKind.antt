@@ -1,0 +1,105 @@
+-- Frames kind by kind: the size of a kind, and the frame that bytes of that size are.
+use mathlib.Core.Path.{_≡_, refl, sym, _∙_}
+use Prim.Native.Nat.{ℕ, zero, suc, _*_, _<_, _≤_}
+use mathlib.Core.Bool.{Bool, true, false, cond, and-true, and-false}
+use mathlib.Core.List.{List}
+use native.Mathlib.Omega.{arith}
+use borrow.Author.Tests.{eq-eqb, ne-eqb, lt-leb}
+use lib.Dec.{eqb}
+use lib.ListN.{length, getD, take}
+use lib.Seq.{take-all}
+use Rattle.rules.specs.declared.Line.the-variants.{Bad}
+use Rattle.rules.specs.Frames.{paired, unhex, isFrame, frameOf, lineOf}
+use Rattle.rules.proofs.Tests.{cond-same}
+use Rattle.frame.specs.Decoded.{sizeOf, frameAs}
+use Rattle.frame.proofs.Numbers.{read-take}
+use Rattle.frame.proofs.Pairs.{length-unhex}
+
+-- a number that is no kind
+pub record NoKind (k : ℕ) : Type 0 where
+  pub not-1 : eqb k 1 ≡ false
+  pub not-2 : eqb k 2 ≡ false
+  pub not-3 : eqb k 3 ≡ false
+  pub not-4 : eqb k 4 ≡ false
+  pub not-5 : eqb k 5 ≡ false
+  pub size : sizeOf k ≡ 0
+
+above : (k : ℕ) → 5 < k → NoKind k
+unfolding sizeOf
+above k h =
+    let one = ne-eqb k 1 (λ e. omega arith) in
+    let four = ne-eqb k 4 (λ e. omega arith) in
+    let five = ne-eqb k 5 (λ e. omega arith) in
+    record {
+      not-1 = one;
+      not-2 = ne-eqb k 2 (λ e. omega arith);
+      not-3 = ne-eqb k 3 (λ e. omega arith);
+      not-4 = four;
+      not-5 = five;
+      size = simp (one, lt-leb k 3 (omega arith), and-false, four, five);
+    }
+
+-- what holds of each kind, and of what is no kind, holds of each number
+pub by-kind : (P : ℕ → Type 0) → P 1 → P 2 → P 3 → P 4 → P 5 → ((k : ℕ) → NoKind k → P k) → (k : ℕ) → P k
+unfolding sizeOf
+by-kind P a b c d e none zero = none 0 (record { not-1 = refl; not-2 = refl; not-3 = refl; not-4 = refl; not-5 = refl; size = refl })
+by-kind P a b c d e none (suc zero) = a
+by-kind P a b c d e none (suc (suc zero)) = b
+by-kind P a b c d e none (suc (suc (suc zero))) = c
+by-kind P a b c d e none (suc (suc (suc (suc zero)))) = d
+by-kind P a b c d e none (suc (suc (suc (suc (suc zero))))) = e
+by-kind P a b c d e none (suc (suc (suc (suc (suc (suc k)))))) = none (suc (suc (suc (suc (suc (suc k)))))) (above (suc (suc (suc (suc (suc (suc k)))))) (omega arith))
+
+pub size-bound : (k : ℕ) → sizeOf k ≤ 34
+unfolding sizeOf
+size-bound = by-kind (λ k. sizeOf k ≤ 34) (omega arith) (omega arith) (omega arith) (omega arith) (omega arith) (λ k n. omega (arith, n .size))
+
+pub frame-none : (k : ℕ) → NoKind k → (b : List ℕ) → frameAs k b ≡ Bad
+unfolding frameAs
+frame-none k n b = rw (n .not-1, n .not-2, n .not-3, n .not-4, n .not-5)
+
+-- bytes are a frame of the kind that the first says if they are as many as it asks for
+pub frame-by-kind : (b : List ℕ) → frameOf b ≡ cond (eqb (length b) (sizeOf (getD b 0 0))) (frameAs (getD b 0 0) b) Bad
+unfolding frameOf isFrame sizeOf frameAs
+frame-by-kind b = by-kind P
+    (λ e. simp (e, and-true, and-false))
+    (λ e. simp (e, and-true, and-false))
+    (λ e. simp (e, and-true, and-false))
+    (λ e. simp (e, and-true, and-false))
+    (λ e. simp (e, and-true, and-false))
+    (λ k n e. simp (e, n .not-1, n .not-2, n .not-3, n .not-4, n .not-5, and-false, cond-same))
+    (getD b 0 0)
+    refl
+  where
+    P : ℕ → Type 0
+    P k = getD b 0 0 ≡ k → frameOf b ≡ cond (eqb (length b) (sizeOf k)) (frameAs k b) Bad
+
+-- a frame's fields stand within its size
+pub frame-front : (k : ℕ) (b : List ℕ) → length b ≡ 34 → frameAs k b ≡ frameAs k (take (sizeOf k) b)
+unfolding frameAs sizeOf
+frame-front k b h = by-kind (λ k. frameAs k b ≡ frameAs k (take (sizeOf k) b))
+    (rw (take-all 34 b (omega arith)))
+    (rw (read-take 8 1 9 b (omega arith)))
+    (rw (read-take 8 1 9 b (omega arith)))
+    (rw (read-take 1 1 7 b (omega arith), read-take 1 2 7 b (omega arith), read-take 4 3 7 b (omega arith)))
+    (rw (read-take 1 1 2 b (omega arith)))
+    (λ k n. frame-none k n b ∙ sym (frame-none k n (take (sizeOf k) b)))
+    k
+
+-- a line of pairs that is as long as its kind asks for, and one that is not
+module _ (l : List ℕ) where
+  pub line-as : paired l ≡ true → length l ≡ 2 * sizeOf (getD (unhex l) 0 0) → lineOf l ≡ frameAs (getD (unhex l) 0 0) (unhex l)
+  unfolding lineOf
+  line-as p e =
+      let n = eq-eqb (length (unhex l)) (sizeOf (getD (unhex l) 0 0)) (omega (arith, length-unhex l p)) in
+      rw (p, frame-by-kind (unhex l), n)
+
+  pub other-length : (length l ≡ 2 * sizeOf (getD (unhex l) 0 0) → ⊥) → lineOf l ≡ Bad
+  unfolding lineOf
+  other-length other = go (paired l) refl
+    where
+      go : (t : Bool) → paired l ≡ t → cond t (frameOf (unhex l)) Bad ≡ Bad
+      go true p =
+          let n = ne-eqb (length (unhex l)) (sizeOf (getD (unhex l) 0 0)) (λ e. other (omega (arith, length-unhex l p))) in
+          rw (frame-by-kind (unhex l), n)
+      go false p = refl

@@ -1,0 +1,7 @@
+-- What belongs to no one function.
+pub mod Numbers
+pub mod Pairs
+pub mod ByKind
+pub mod Passes
+pub mod Writes
+pub mod RoundTrips

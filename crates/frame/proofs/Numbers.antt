@@ -1,0 +1,23 @@
+-- Numbers read from bytes, in halves and within a part: by induction over the width.
+use mathlib.Core.Path.{_≡_, refl}
+use Prim.Native.Nat.{ℕ, zero, suc, _+_, _*_, _^_, _≤_}
+use mathlib.Core.List.{List}
+use native.Mathlib.Nat.{add-zero, add-suc, pow-suc, mul-assoc}
+use native.Mathlib.Omega.{arith}
+use lib.ListN.{take}
+use lib.Seq.{getD-take}
+use Rattle.rules.specs.Bytes.{read}
+
+-- a number is the number of its first bytes, moved up, and that of the others
+pub read-join : (m n at : ℕ) (l : List ℕ) → read (m + n) at l ≡ read m at l * 256 ^ n + read n (at + m) l
+unfolding read
+read-join m zero at l = rw (add-zero m) (omega arith)
+read-join m (suc n) at l =
+    let e : at + (m + n) ≡ at + m + n = omega arith in
+    rw (add-suc, read-join m n at l, e, pow-suc, ← mul-assoc (read m at l) (256 ^ n) 256) (omega arith)
+
+-- reading within the first m
+pub read-take : (n at m : ℕ) (l : List ℕ) → at + n ≤ m → read n at (take m l) ≡ read n at l
+unfolding read
+read-take zero at m l h = refl
+read-take (suc n) at m l h = rw (read-take n at m l (omega arith), getD-take m l (at + n) 0 (omega arith))

@@ -1,0 +1,32 @@
+-- What the functions under the decoder promise: a kind's size, its frame from the bytes, and the pairs of a line as bytes.
+use mathlib.Core.Path.{_≡_}
+use Prim.Native.Nat.{ℕ}
+use mathlib.Core.Bool.{Bool, true, cond, _&&_}
+use mathlib.Core.List.{List}
+use lib.Dec.{leb, eqb}
+use lib.ListN.{length, take}
+use Rattle.rules.specs.declared.Line.{Line}
+use Rattle.rules.specs.declared.Line.the-variants.{Good, Bad}
+use Rattle.rules.specs.declared.Frame.the-variants as frame
+use Rattle.rules.specs.Bytes.{read, idAt, eventAt}
+use Rattle.rules.specs.Frames.{paired, unhex}
+
+-- Frames and image, how many bytes a frame of a kind has, 0 for a number that is no kind
+unfoldable pub sizeOf : ℕ → ℕ
+sizeOf kind = cond (eqb kind 1) 34 (cond (leb 2 kind && leb kind 3) 9 (cond (eqb kind 4) 7 (cond (eqb kind 5) 2 0)))
+
+-- `frameOf` of bytes that are as many as the kind asks for
+unfoldable pub frameAs : ℕ → List ℕ → Line
+frameAs kind b =
+    cond (eqb kind 1) (Good (frame.Event (eventAt 1 b)))
+    (cond (eqb kind 2) (Good (frame.Cancel (idAt 1 b)))
+    (cond (eqb kind 3) (Good (frame.Clock (read 8 1 b)))
+    (cond (eqb kind 4) (Good (frame.Program (read 1 1 b) (read 1 2 b) (read 4 3 b)))
+    (cond (eqb kind 5) (Good (frame.Ask (read 1 1 b)))
+    Bad))))
+
+-- whether the n pairs of a line are digits, and if so their bytes, at the front of the array
+pub record Unhexed (l : List ℕ) (n : ℕ) (good : Bool) (b : List ℕ) : Type 0 where
+  pub size : length b ≡ 34
+  pub digits : good ≡ paired l
+  pub bytes : good ≡ true → take n b ≡ unhex l
