@@ -8,11 +8,12 @@ use lib.ListN.{length, take, drop, set, length-set, length-append, take-append-d
 use lib.Seq.{drop-drop, take-set-le, length-take-le, take-at, drop-at}
 use Rattle.rules.specs.declared.Frame.{Frame}
 use Rattle.rules.specs.declared.Frame.the-variants as frame
-use Rattle.rules.specs.Lists.{over}
+use Rattle.rules.specs.Lists.{over, overAt}
 use Rattle.rules.specs.Bytes.{big, eventBytes}
 use Rattle.rules.proofs.Numbers.{big-length}
+use Rattle.rules.proofs.Over.{over-then}
 use Rattle.frame.specs.Decoded.{sizeOf}
-use Rattle.frame.specs.Encoded.{hex, hexed, kindOf, fieldBytes, frameBytes, encoded, encodedInto, written}
+use Rattle.frame.specs.Encoded.{hex, hexed, kindOf, fieldBytes, frameBytes, encoded, encodedInto}
 use Rattle.frame.proofs.Pairs.{hexed-append, length-hexed}
 
 -- two bytes stored one after the other
@@ -49,7 +50,7 @@ module _ {old : List ℕ} {at n x : ℕ} {new : List ℕ} {rest : ℕ} where
         back = rw (stored new k (hex (byte / 16)) (hex (byte % 16)) (omega (arith, l .size))) (rw (f, hexed-append, append-assoc) at (l .back));
       })
 
-  pub left-none : at + 2 * n ≤ length old → Left old at n x new rest 0 → new ≡ written at (hexed (big n x)) old
+  pub left-none : at + 2 * n ≤ length old → Left old at n x new rest 0 → new ≡ overAt at (hexed (big n x)) old
   unfolding big hexed
   left-none h l =
       let z : at + 2 * 0 ≡ at = omega arith in
@@ -57,25 +58,16 @@ module _ {old : List ℕ} {at n x : ℕ} {new : List ℕ} {rest : ℕ} where
       let e : at + length (hexed (big n x)) ≡ at + 2 * n = omega (arith, length-hexed (big n x), big-length n x) in
       sym (take-append-drop at new) ∙ rw (l .front, back, drop-drop, e)
 
--- one list and then another
-written-then : (at : ℕ) (vs ws l : List ℕ) → at ≤ length l → written (at + length vs) ws (written at vs l) ≡ written at (vs ++ ws) l
-written-then at vs ws l h =
-    let p = take at l ++ vs in
-    let r = drop (length vs) (drop at l) in
-    let n : length p ≡ at + length vs = simp length-append (omega (arith, length-take-le at l h)) in
-    let e : written at vs l ≡ p ++ r = sym (append-assoc (take at l) vs r) in
-    rw (e, take-at p r (at + length vs) n, drop-at p r (at + length vs) n, length-append, ← drop-drop (length ws) (length vs) (drop at l)) (simp append-assoc)
-
 -- bytes stand as pairs in a buffer from `at` on
 pub record Wrote (old : List ℕ) (at : ℕ) (vs new : List ℕ) : Type 0 where
   pub room : at ≤ length old
-  pub is : new ≡ written at (hexed vs) old
+  pub is : new ≡ overAt at (hexed vs) old
 
 pub then : {old : List ℕ} {at : ℕ} {vs new : List ℕ} → Wrote old at vs new → (ws : List ℕ) (next : ℕ) → next ≡ at + 2 * length vs → {n : List ℕ}
-    → n ≡ written next (hexed ws) new → Wrote old at (vs ++ ws) n
+    → n ≡ overAt next (hexed ws) new → Wrote old at (vs ++ ws) n
 then {old} {at} {vs} w ws next e q =
     let f : next ≡ at + length (hexed vs) = omega (arith, length-hexed vs) in
-    record { room = w .room; is = q ∙ rw (w .is, f, hexed-append) (written-then at (hexed vs) (hexed ws) old (w .room)) }
+    record { room = w .room; is = q ∙ rw (w .is, f, hexed-append) (over-then at (hexed vs) (hexed ws) old (w .room)) }
 
 -- a frame's size, and its line in a buffer
 size-of-frame : (f : Frame) → length (frameBytes f) ≡ sizeOf (kindOf f)
@@ -108,7 +100,7 @@ module _ (f : Frame) (l : List ℕ) (length′ : ℕ) (is-length : length′ ≡
   unfolding encoded frameBytes hexed
   kind-room h = omega (arith, line-length)
 
-  pub encoded-whole : length′ ≤ length l → {m n : List ℕ} → m ≡ written 0 (hexed (big 1 (kindOf f))) l → n ≡ written 2 (hexed (fieldBytes f)) m
+  pub encoded-whole : length′ ≤ length l → {m n : List ℕ} → m ≡ overAt 0 (hexed (big 1 (kindOf f))) l → n ≡ overAt 2 (hexed (fieldBytes f)) m
       → (length′, n) ≡ encodedInto f l
   unfolding encodedInto encoded frameBytes
   encoded-whole h {m} {n} p q =

@@ -3,7 +3,7 @@ use Prim.Native.Nat.{ℕ, _+_, _/_, _%_}
 use mathlib.Core.Bool.{cond}
 use mathlib.Core.List.{List, [], _∷_, _++_}
 use lib.Dec.{leb, ltb}
-use lib.ListN.{length, take, drop}
+use lib.ListN.{length}
 use Rattle.rules.specs.declared.Frame.{Frame}
 use Rattle.rules.specs.declared.Frame.the-variants as frame
 use Rattle.rules.specs.Lists.{over}
@@ -45,7 +45,3 @@ encoded f = hexed (frameBytes f)
 -- what the encoder returns and leaves in a buffer: the line's length and the line over the front, or 0 and the buffer as it was if it is too short
 unfoldable pub encodedInto : Frame → List ℕ → ℕ × List ℕ
 encodedInto f out = cond (leb (length (encoded f)) (length out)) (length (encoded f), over (encoded f) out) (0, out)
-
--- `new` written over what stands in `old` from `at` on
-abbrev pub written : ℕ → List ℕ → List ℕ → List ℕ
-written at new old = take at old ++ over new (drop at old)

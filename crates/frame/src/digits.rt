@@ -2,10 +2,11 @@
 ghost use mathlib.Core.Path.{_≡_};
 ghost use Prim.Native.Nat.{_+_, _*_, _≤_, _<_};
 ghost use lib.ListN.{length, getD};
+ghost use Rattle.rules.specs.Lists.{overAt};
 ghost use Rattle.rules.specs.Bytes.{big};
 ghost use Rattle.rules.specs.Frames.{digit, unhex};
 ghost use Rattle.frame.specs.Decoded.{Unhexed};
-ghost use Rattle.frame.specs.Encoded.{hex, hexed, written};
+ghost use Rattle.frame.specs.Encoded.{hex, hexed};
 
 // What a digit stands for, 16 for any other byte.
 fn nibble(c: u8) -> u8
@@ -63,7 +64,7 @@ fn digit_of(d: u8) -> u8
 // Writes the last n bytes of a number as pairs, the most significant first, from `at` on.
 pub(crate) fn put(out: &mut [u8], at: usize, n: usize, x: u64)
     requires { ⌜ at + 2 * n ≤ length (now out) ⌝ }
-    ensures { λ _. ⌜ now (out .exit) ≡ written at (hexed (big n x)) (now (out .entry)) ⌝ }
+    ensures { λ _. ⌜ now (out .exit) ≡ overAt at (hexed (big n x)) (now (out .entry)) ⌝ }
 {
     let mut rest = x;
     let mut i = n;

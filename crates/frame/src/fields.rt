@@ -3,9 +3,10 @@ ghost use mathlib.Core.Path.{_≡_};
 ghost use mathlib.Core.List.{_++_};
 ghost use Prim.Native.Nat.{_+_, _*_, _≤_};
 ghost use lib.ListN.{length};
+ghost use Rattle.rules.specs.Lists.{overAt};
 ghost use Rattle.rules.specs.Bytes.{big, read, eventAt, eventBytes};
 ghost use Rattle.frame.specs.Decoded.{sizeOf, frameAs};
-ghost use Rattle.frame.specs.Encoded.{hexed, kindOf, fieldBytes, written};
+ghost use Rattle.frame.specs.Encoded.{hexed, kindOf, fieldBytes};
 use crate::digits;
 use rules::Event;
 use rules::Frame;
@@ -80,7 +81,7 @@ pub(crate) fn frame_as(kind: u16, b: &[u8; 34]) -> Line
 // The fields of an event, behind the pair of the kind.
 fn put_event(out: &mut [u8], e: Event)
     requires { ⌜ 68 ≤ length (now out) ⌝ }
-    ensures { λ _. ⌜ now (out .exit) ≡ written 2 (hexed (eventBytes e)) (now (out .entry)) ⌝ }
+    ensures { λ _. ⌜ now (out .exit) ≡ overAt 2 (hexed (eventBytes e)) (now (out .entry)) ⌝ }
 {
     digits::put(out, 2, 8, e.id.value);
     digits::put(out, 18, 1, e.program as u64);
@@ -97,7 +98,7 @@ fn put_event(out: &mut [u8], e: Event)
 // The fields of a program, behind the pair of the kind.
 fn put_program(out: &mut [u8], n: u8, p: u8, d: u32)
     requires { ⌜ 14 ≤ length (now out) ⌝ }
-    ensures { λ _. ⌜ now (out .exit) ≡ written 2 (hexed (big 1 n ++ (big 1 p ++ big 4 d))) (now (out .entry)) ⌝ }
+    ensures { λ _. ⌜ now (out .exit) ≡ overAt 2 (hexed (big 1 n ++ (big 1 p ++ big 4 d))) (now (out .entry)) ⌝ }
 {
     digits::put(out, 2, 1, n as u64);
     digits::put(out, 4, 1, p as u64);
@@ -107,7 +108,7 @@ fn put_program(out: &mut [u8], n: u8, p: u8, d: u32)
 // The fields of a frame, behind the pair of its kind.
 pub(crate) fn put(out: &mut [u8], f: Frame)
     requires { ⌜ 2 * sizeOf (kindOf f) ≤ length (now out) ⌝ }
-    ensures { λ _. ⌜ now (out .exit) ≡ written 2 (hexed (fieldBytes f)) (now (out .entry)) ⌝ }
+    ensures { λ _. ⌜ now (out .exit) ≡ overAt 2 (hexed (fieldBytes f)) (now (out .entry)) ⌝ }
 {
     match f {
         Frame::Event(e) => put_event(out, e),

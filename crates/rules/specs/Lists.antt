@@ -5,7 +5,7 @@ use Prim.Native.Nat.{ℕ}
 use mathlib.Core.Bool.{Bool, true, cond, _&&_}
 use mathlib.Core.List.{List, [], _∷_, _++_}
 use lib.Dec.{ltb}
-use lib.ListN.{length, drop}
+use lib.ListN.{length, take, drop}
 
 -- the elements that pass a test, in their order
 abbrev pub keep : {A : Type 0} → (A → Bool) → List A → List A
@@ -20,6 +20,10 @@ insert number a (x ∷ xs) = cond (ltb (number a) (number x)) (a ∷ x ∷ xs) (
 -- `new` written over the front of `old`
 abbrev pub over : {A : Type 0} → List A → List A → List A
 over new old = new ++ drop (length new) old
+
+-- `new` written over what stands in `old` from `at` on
+abbrev pub overAt : {A : Type 0} → ℕ → List A → List A → List A
+overAt at new old = take at old ++ over new (drop at old)
 
 -- whether each passes a test
 abbrev pub each : {A : Type 0} → (A → Bool) → List A → Bool
