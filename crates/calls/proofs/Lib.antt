@@ -22,3 +22,4 @@ pub mod Stored
 pub mod Adding
 pub mod Asking
 pub mod Copying
+pub mod Framed

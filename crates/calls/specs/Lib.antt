@@ -8,3 +8,4 @@ pub mod HeldRules
 pub mod Finished
 pub mod Advanced
 pub mod Settled
+pub mod Lines

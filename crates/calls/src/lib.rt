@@ -4,12 +4,14 @@ ghost use mathlib.Core.Path.{_≡_};
 ghost use mathlib.Core.List.{[]};
 ghost use Rattle.rules.specs.Calls.{call, addProgram, deliver, cancel, setClock, ask};
 ghost use Rattle.calls.specs.Answered.{outcomeOf};
+ghost use Rattle.calls.specs.Lines.{lineOutcome};
 
 mod advance;
 mod clock;
 mod columns;
 mod events;
 mod finish;
+mod lines;
 mod programs;
 mod reading;
 mod settle;
@@ -18,11 +20,19 @@ mod sound;
 use rules::Answer;
 use rules::Event;
 use rules::Id;
+use rules::Line;
 use rules::Schedule;
 
 // What a call returns.
 pub struct Answered {
     pub answer: Answer,
+    pub schedule: Schedule,
+}
+
+// What a run over lines returns: how many bytes it wrote, or its refusal; how many bytes of the lines it took.
+pub struct Ran {
+    pub answer: Answer,
+    pub read: usize,
     pub schedule: Schedule,
 }
 
@@ -84,6 +94,26 @@ pub fn ask(s: Schedule, control: u8) -> Answered
 {
     if sound::is_sound(s) {
         return programs::ask(s, control);
+    }
+    Answered {
+        answer: Answer::Refused(2),
+        schedule: s,
+    }
+}
+
+// Numbers given, 1. A line is decoded and its call made; the buffer is lent for the rows of a clock reading.
+pub fn act(s: Schedule, line: &[u8], buffer: &mut [u8]) -> Answered
+    ensures { λ r. ⌜ outcomeOf r (now (buffer .exit)) [] ≡ lineOutcome s (now (line .entry)) (now (buffer .entry)) ⌝ }
+{
+    let decoded = frame::decode(line);
+    let Line::Good(f) = decoded else {
+        return Answered {
+            answer: Answer::Refused(1),
+            schedule: s,
+        };
+    };
+    if sound::is_sound(s) {
+        return lines::act_on(s, f, buffer);
     }
     Answered {
         answer: Answer::Refused(2),

@@ -1,0 +1,85 @@
+-- A line acted on, and a run over many lines.
+use Prim.Native.Nat.{ℕ, suc, _+_, _-_}
+use mathlib.Core.Bool.{cond}
+use mathlib.Core.List.{List, [], _∷_, _++_}
+use lib.Dec.{leb, eqb}
+use lib.ListN.{length}
+use Rattle.rules.specs.declared.Schedule.{Schedule}
+use Rattle.rules.specs.declared.Frame.{Frame}
+use Rattle.rules.specs.declared.Frame.the-variants as frame
+use Rattle.rules.specs.declared.Line.{Line}
+use Rattle.rules.specs.declared.Line.the-variants.{Good, Bad}
+use Rattle.rules.specs.Lists.{over}
+use Rattle.rules.specs.Sound.{sound}
+use Rattle.rules.specs.Calls.{Value, nothing, count, Outcome, numberOf, valueOf, call}
+use Rattle.rules.specs.Frames.{lineOf, frameCall}
+use Rattle.rules.specs.Printed.{Told, tell}
+use Rattle.calls.specs.declared.Ran as declared
+
+-- a lent buffer after the call of a frame: a clock reading alone writes to it
+abbrev pub lentAfter : Frame → Outcome → List ℕ → List ℕ
+lentAfter (frame.Event e) o b = b
+lentAfter (frame.Cancel i) o b = b
+lentAfter (frame.Clock t) o b = o .bytes
+lentAfter (frame.Program n p d) o b = b
+lentAfter (frame.Ask c) o b = b
+
+-- Frames and image, a frame: what its call gives and leaves, with the buffer that is lent for rows
+unfoldable pub frameOutcome : Schedule → Frame → List ℕ → Outcome
+frameOutcome s f b =
+    let o = call s (frameCall f b) in
+    record { number = o .number; value = o .value; state = o .state; bytes = lentAfter f o b; records = [] }
+
+-- Numbers given, 1: a line that is no frame is refused before anything else
+abbrev pub decodedOutcome : Schedule → Line → List ℕ → Outcome
+decodedOutcome s (Good f) b = frameOutcome s f b
+decodedOutcome s Bad b = record { number = 1; value = nothing; state = s; bytes = b; records = [] }
+
+-- A LINE ACTED ON
+unfoldable pub lineOutcome : Schedule → List ℕ → List ℕ → Outcome
+lineOutcome s l b = decodedOutcome s (lineOf l) b
+
+-- the lines of a text that end with a line feed
+unfoldable pub endedOf : List ℕ → List (List ℕ)
+endedOf [] = []
+endedOf (b ∷ bs) = cond (eqb b 10) ([] ∷ endedOf bs) (longer (endedOf bs))
+  where
+    longer : List (List ℕ) → List (List ℕ)
+    longer [] = []
+    longer (l ∷ ls) = (b ∷ l) ∷ ls
+
+-- what a run leaves: the schedule, how many bytes of the lines it took, and what it wrote
+pub record Run : Type 0 where
+  pub state : Schedule
+  pub read : ℕ
+  pub text : List ℕ
+
+-- lines one after the other, each with its line feed, up to the first whose text does not fit
+unfoldable pub runs : ℕ → Schedule → List (List ℕ) → Run
+runs room s [] = record { state = s; read = 0; text = [] }
+runs room s (l ∷ ls) =
+    let o = tell s l in
+    let rest = runs (room - length (o .text)) (o .state) ls in
+    cond (leb (length (o .text)) room)
+    (record { state = rest .state; read = suc (length l) + rest .read; text = o .text ++ rest .text })
+    (record { state = s; read = 0; text = [] })
+
+-- what a run gives and leaves: number, how many bytes it wrote, the schedule, how many bytes it read, the lent buffer
+pub record RunOutcome : Type 0 where
+  pub number : ℕ
+  pub value : Value
+  pub state : Schedule
+  pub read : ℕ
+  pub bytes : List ℕ
+
+abbrev pub ranOf : declared.Ran → List ℕ → RunOutcome
+ranOf r bytes = record { number = numberOf (r .answer); value = valueOf (r .answer); state = r .schedule; read = r .read; bytes = bytes }
+
+abbrev pub ranInto : Run → List ℕ → RunOutcome
+ranInto r out = record { number = 0; value = count (length (r .text)); state = r .state; read = r .read; bytes = over (r .text) out }
+
+-- A RUN OVER LINES: 2 for a schedule that breaks a rule
+unfoldable pub runOutcome : Schedule → List ℕ → List ℕ → RunOutcome
+runOutcome s lines out =
+    cond (sound s) (ranInto (runs (length out) s (endedOf lines)) out)
+    (record { number = 2; value = nothing; state = s; read = 0; bytes = out })
