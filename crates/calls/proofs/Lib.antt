@@ -23,3 +23,7 @@ pub mod Adding
 pub mod Asking
 pub mod Copying
 pub mod Framed
+pub mod Ends
+pub mod Running
+pub mod Said
+pub mod Printing

@@ -9,3 +9,5 @@ pub mod Finished
 pub mod Advanced
 pub mod Settled
 pub mod Lines
+pub mod Texts
+pub mod Says

@@ -39,14 +39,20 @@ decodedOutcome s Bad b = record { number = 1; value = nothing; state = s; bytes 
 unfoldable pub lineOutcome : Schedule → List ℕ → List ℕ → Outcome
 lineOutcome s l b = decodedOutcome s (lineOf l) b
 
+-- a byte in front of the first line, if there is one
+abbrev pub longer : ℕ → List (List ℕ) → List (List ℕ)
+longer b [] = []
+longer b (l ∷ ls) = (b ∷ l) ∷ ls
+
 -- the lines of a text that end with a line feed
 unfoldable pub endedOf : List ℕ → List (List ℕ)
 endedOf [] = []
-endedOf (b ∷ bs) = cond (eqb b 10) ([] ∷ endedOf bs) (longer (endedOf bs))
-  where
-    longer : List (List ℕ) → List (List ℕ)
-    longer [] = []
-    longer (l ∷ ls) = (b ∷ l) ∷ ls
+endedOf (b ∷ bs) = cond (eqb b 10) ([] ∷ endedOf bs) (longer b (endedOf bs))
+
+-- how many bytes stand before the first line feed
+unfoldable pub upTo : List ℕ → ℕ
+upTo [] = 0
+upTo (b ∷ bs) = cond (eqb b 10) 0 (suc (upTo bs))
 
 -- what a run leaves: the schedule, how many bytes of the lines it took, and what it wrote
 pub record Run : Type 0 where

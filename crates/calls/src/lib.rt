@@ -4,7 +4,7 @@ ghost use mathlib.Core.Path.{_≡_};
 ghost use mathlib.Core.List.{[]};
 ghost use Rattle.rules.specs.Calls.{call, addProgram, deliver, cancel, setClock, ask};
 ghost use Rattle.calls.specs.Answered.{outcomeOf};
-ghost use Rattle.calls.specs.Lines.{lineOutcome};
+ghost use Rattle.calls.specs.Lines.{lineOutcome, ranOf, runOutcome};
 
 mod advance;
 mod clock;
@@ -16,6 +16,7 @@ mod programs;
 mod reading;
 mod settle;
 mod sound;
+mod text;
 
 use rules::Answer;
 use rules::Event;
@@ -117,6 +118,21 @@ pub fn act(s: Schedule, line: &[u8], buffer: &mut [u8]) -> Answered
     }
     Answered {
         answer: Answer::Refused(2),
+        schedule: s,
+    }
+}
+
+// Frames and image, the program. Acts on each line that ends with a line feed and writes what the program prints for it over the front of `out`, one text
+// after the other. It stops before the first line whose text does not fit. It checks the schedule once, and keeps it to itself from line to line.
+pub fn run(s: Schedule, lines: &[u8], out: &mut [u8]) -> Ran
+    ensures { λ r. ⌜ ranOf r (now (out .exit)) ≡ runOutcome s (now (lines .entry)) (now (out .entry)) ⌝ }
+{
+    if sound::is_sound(s) {
+        return lines::run(s, lines, out);
+    }
+    Ran {
+        answer: Answer::Refused(2),
+        read: 0,
         schedule: s,
     }
 }

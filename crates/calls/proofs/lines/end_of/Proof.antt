@@ -1,0 +1,43 @@
+-- No line feed stands before i.
+use mathlib.Core.Path.{_≡_, refl, sym, _∙_}
+use Prim.Native.Nat.{_+_, _-_, _≤_}
+use native.Mathlib.Omega.{arith}
+use borrow.Author.Needs.{needs}
+use lib.ListN.{length, drop}
+use Rattle.calls.specs.Lines.{upTo}
+use Rattle.calls.proofs.Ends.{up-to-feed, up-to-more, up-to-end}
+use Rattle.calls.proofs.lines.end_of.Statement.{statement}
+use Rattle.calls.proofs.lines.end_of.Tie as tie
+
+abbrev Inv-loop : tie.InvT-loop
+Inv-loop text from i₀ i = from + upTo (drop from text) ≡ i + upTo (drop i text)
+
+abbrev μ-loop : tie.MeasureT-loop
+μ-loop text from i₀ i = length text - i
+
+returns : tie.Need-returns Inv-loop μ-loop
+returns c =
+    let l = c .before .before .before .loop in
+    omega (arith, l .inv, up-to-feed (c .before .before .before .before .args .text .now) (l .i) (c .before .before .loop-test .taken) (c .if1 .taken))
+
+loop-again : tie.Need-loop-again Inv-loop μ-loop
+loop-again c =
+    let l = c .before .before .before .loop in
+    l .inv ∙ up-to-more _ (l .i) (c .before .before .loop-test .taken) (c .if1 .left)
+
+returns-2 : tie.Need-returns-2 Inv-loop μ-loop
+returns-2 c = let l = c .before .loop in omega (arith, l .inv, up-to-end (c .before .before .args .text .now) (l .i) (c .loop-test .left))
+
+pub end-of-spec : {M : Type 1} → statement M
+end-of-spec =
+    tie.close
+    (tie.spec
+    Inv-loop
+    μ-loop
+    (λ c. refl)
+    (λ c. search needs)
+    returns
+    (λ c. search needs)
+    (λ c. search needs)
+    loop-again
+    returns-2)
