@@ -27,3 +27,4 @@ pub mod Ends
 pub mod Running
 pub mod Said
 pub mod Printing
+pub mod Progress

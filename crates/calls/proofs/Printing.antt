@@ -89,7 +89,7 @@ pub read-one : (at : ℕ) (l : List ℕ) → read 1 at l ≡ getD l at 0
 unfolding read
 read-one at l = let z : at + 0 ≡ at = omega arith in rw z (omega arith)
 
-three-length : (t i k : ℕ) → length (threeText t i k) ≤ 63
+pub three-length : (t i k : ℕ) → length (threeText t i k) ≤ 63
 three-length t i k = simp length-append (omega (arith, decimal-length 20 t, decimal-length 20 i, decimal-length 20 k))
 
 module _ (b : List ℕ) where

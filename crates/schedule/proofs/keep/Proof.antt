@@ -1,0 +1,92 @@
+-- What was moved stands at the front, and what is still to be moved where it was.
+use mathlib.Core.Path.{_≡_, refl, sym, ap, _∙_}
+use Prim.Native.Nat.{ℕ, suc, _+_, _-_, _<_, _≤_}
+use mathlib.Core.List.{List}
+use native.Mathlib.Omega.{arith}
+use native.Mathlib.Numerals.{add-one}
+use borrow.Author.Needs.{needs}
+use lib.ListN.{length, getD, take, drop, set, length-set, length-drop}
+use lib.Seq.{take-suc, take-suc-set, drop-set-lt, drop-drop, getD-drop}
+use Rattle.schedule.proofs.keep.Statement.{statement}
+use Rattle.schedule.proofs.keep.Tie as tie
+
+pub record Moved (old new : List ℕ) (from n : ℕ) : Type 0 where
+  pub size : length new ≡ length old
+  pub front : take n new ≡ take n (drop from old)
+  pub rest : drop n new ≡ drop n old
+
+moved-more : {old new : List ℕ} {from n : ℕ} → from + n < length old → Moved old new from n → Moved old (set new n (getD new (from + n) 0)) from (n + 1)
+moved-more {old} {new} {from} {n} h m =
+    let x = getD new (from + n) 0 in
+    let swap : from + n ≡ n + from = omega arith in
+    let same : x ≡ getD (drop from old) n 0 =
+    ap (λ i. getD new i 0) swap ∙ sym (getD-drop n new from 0) ∙ ap (λ l. getD l from 0) (m .rest) ∙ getD-drop n old from 0 ∙ ap (λ i. getD old i 0) (sym swap) ∙ sym (getD-drop from old n 0) in
+    let one : n + 1 ≡ suc n = omega arith in
+    record {
+      size = length-set new n x ∙ m .size;
+      front = rw (one, take-suc-set new n x (omega (arith, m .size)), take-suc (drop from old) n 0 (omega (arith, length-drop from old)), m .front, same);
+      rest = drop-set-lt (n + 1) new n x (omega arith) ∙ sym (drop-drop 1 n new) ∙ ap (drop 1) (m .rest) ∙ drop-drop 1 n old;
+    }
+
+abbrev Inv-loop : tie.InvT-loop
+Inv-loop buffer₀ from to n₀ buffer n = (n ≤ 69) × (from + n ≤ to) × Moved buffer₀ buffer from n
+
+abbrev μ-loop : tie.MeasureT-loop
+μ-loop buffer₀ from to n₀ buffer n = 69 - n
+
+loop-holds : tie.Need-loop-holds Inv-loop μ-loop
+loop-holds c = (omega arith, omega arith, record { size = refl; front = refl; rest = refl })
+
+add-if1 : tie.Need-add-if1 Inv-loop μ-loop
+add-if1 c = record { fits = omega (arith, c .before .loop .inv .1, c .before .before .fits .to) }
+
+same-length : tie.Need-same-length Inv-loop μ-loop
+same-length c = c .before .before .loop .inv .2 .size
+
+returns : tie.Need-returns Inv-loop μ-loop
+returns c = (omega (arith, c .before .before .loop .inv .0), c .before .before .loop .inv .2 .front)
+
+add-buffer : tie.Need-add-buffer Inv-loop μ-loop
+add-buffer c = record { fits = omega (arith, c .before .before .loop .inv .1, c .before .before .before .fits .to) }
+
+slice-read-buffer : tie.Need-slice-read-buffer Inv-loop μ-loop
+slice-read-buffer c = let l = c .before .before .before .loop in omega (arith, c .before .if1 .left, l .inv .1, l .inv .2 .size)
+
+slice-write-buffer : tie.Need-slice-write-buffer Inv-loop μ-loop
+slice-write-buffer c = let l = c .before .before .before .loop in omega (arith, c .before .if1 .left, l .inv .1, l .inv .2 .size)
+
+add-n : tie.Need-add-n Inv-loop μ-loop
+add-n c = search needs
+
+loop-less : tie.Need-loop-less Inv-loop μ-loop
+loop-less c = search needs
+
+loop-again : tie.Need-loop-again Inv-loop μ-loop
+loop-again c =
+    let l = c .before .before .before .loop in
+    (omega arith, omega (arith, c .before .if1 .left, l .inv .1), moved-more (omega (arith, c .before .if1 .left, l .inv .1)) (l .inv .2))
+
+same-length-2 : tie.Need-same-length-2 Inv-loop μ-loop
+same-length-2 c = c .before .loop .inv .2 .size
+
+returns-2 : tie.Need-returns-2 Inv-loop μ-loop
+returns-2 c = (omega (arith, c .before .loop .inv .1, c .before .loop .inv .0), c .before .loop .inv .2 .front)
+
+pub keep-spec : {M : Type 1} → statement M
+keep-spec =
+    tie.close
+    (tie.spec
+    Inv-loop
+    μ-loop
+    loop-holds
+    add-if1
+    same-length
+    returns
+    add-buffer
+    slice-read-buffer
+    slice-write-buffer
+    add-n
+    loop-less
+    loop-again
+    same-length-2
+    returns-2)

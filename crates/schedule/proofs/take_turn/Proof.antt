@@ -1,0 +1,43 @@
+-- The lines end within what was read.
+use mathlib.Core.Path.{_≡_, sym, ap, _∙_}
+use Prim.Native.Nat.{_+_, _≤_}
+use native.Mathlib.Omega.{arith}
+use borrow.Author.Needs.{needs}
+use lib.ListN.{length}
+use lib.Seq.{length-take-le}
+use Rattle.schedule.proofs.take_turn.Statement.{statement}
+use Rattle.schedule.proofs.take_turn.Tie as tie
+
+slice-reshare-prefix-print-lines : tie.Need-slice-reshare-prefix-print-lines
+slice-reshare-prefix-print-lines c = search needs
+
+slice-aggregate-print-lines : tie.Need-slice-aggregate-print-lines
+slice-aggregate-print-lines c = sym (length-take-le (c .before .before .before .before .before .before .before .before .before .before .before .args .kept + c .before .before .count .result) _ (slice-reshare-prefix-print-lines (c .before)))
+
+keep-requires : tie.Need-keep-requires
+keep-requires c κs =
+    let p = c .before .before .before .before .before .before in
+    (rw (← slice-aggregate-print-lines p) at (c .before .before .before .before .print-lines .ensures .1), slice-reshare-prefix-print-lines (p .before))
+
+pub take-turn-spec : {M : Type 1} → statement M
+take-turn-spec =
+    tie.close
+    (tie.spec
+    (λ c. search needs)
+    (λ c. search needs)
+    (λ c. search needs)
+    (λ c κs. search needs)
+    (λ c. search needs)
+    (λ c. search needs)
+    (λ c. search needs)
+    (λ c κs. search needs)
+    (λ c. search needs)
+    (λ c. search needs)
+    (λ c. search needs)
+    slice-reshare-prefix-print-lines
+    slice-aggregate-print-lines
+    (λ c κs. search needs)
+    keep-requires
+    (λ c. search needs)
+    (λ c. search needs)
+    (λ c. search needs))

@@ -1,0 +1,153 @@
+// The program `schedule`: frames from standard input, one to a line, and what document 01 has printed for each on standard output. It reads and writes in
+// large pieces, and keeps no more of its input than one buffer. What is printed for the lines in it is what `calls::run` promises.
+ghost use mathlib.Core.Path.{_≡_};
+ghost use Prim.Native.Nat.{_-_, _≤_, _<_, min};
+ghost use mathlib.Core.Bool.{true};
+ghost use mathlib.Core.List.{[]};
+ghost use lib.ListN.{length, take, drop};
+ghost use Rattle.rules.specs.Sound.{sound};
+ghost use Rattle.rules.specs.Calls.{valueOf, counted};
+ghost use Rattle.calls.specs.Lines.{endedOf};
+ghost use Rattle.calls.specs.Texts.{mostText};
+use libc::STDIN_FILENO;
+use libc::STDOUT_FILENO;
+use rules::Answer;
+use rules::Schedule;
+
+// A line of more bytes than this is no frame, whatever follows.
+const LONGEST: usize = 69;
+
+// What the lines of a piece left: the schedule, how many bytes they were, and whether their texts could be written.
+struct Piece {
+    schedule: Schedule,
+    read: usize,
+    written: bool,
+}
+
+// How many bytes a run wrote. It has no refusal here, since the schedule is sound.
+fn count_of(answer: Answer) -> usize
+    ensures { λ r. ⌜ r ≡ counted (valueOf answer) ⌝ }
+{
+    match answer {
+        Answer::Count(n) => n,
+        Answer::Refused(_) => 0,
+        Answer::Code(_) => 0,
+        Answer::Holder(_) => 0,
+        Answer::Default(_) => 0,
+        Answer::Nobody => 0,
+    }
+}
+
+// Runs over all lines that end in a piece, and writes their texts.
+fn print_lines(mut s: Schedule, piece: &[u8], out: &mut [u8]) -> Piece
+    requires { ⌜ (sound s ≡ true) × (mostText ≤ length (now out)) ⌝ }
+    ensures { λ r. ⌜ (sound (r .schedule) ≡ true) × (r .read ≤ length (now (piece .entry))) × (r .written ≡ true → endedOf (drop (r .read) (now (piece .entry))) ≡ []) ⌝ }
+{
+    let mut from = 0;
+    loop {
+        let ran = calls::run(s, &piece[from..], out);
+        let next = ran.schedule;
+        s = next;
+        let answer = ran.answer;
+        let n = count_of(answer);
+        if !io::write_all(STDOUT_FILENO, &out[..n]) {
+            return Piece {
+                schedule: s,
+                read: from,
+                written: false,
+            };
+        }
+        if ran.read == 0 {
+            return Piece {
+                schedule: s,
+                read: from,
+                written: true,
+            };
+        }
+        from += ran.read;
+    }
+}
+
+// The line that has not ended yet goes to the front of the buffer, as much of it as can matter; how much that is.
+fn keep(buffer: &mut [u8], from: usize, to: usize) -> usize
+    requires { ⌜ (from ≤ to) × (to ≤ length (now buffer)) ⌝ }
+    ensures { λ r. ⌜ (r ≡ min 69 (to - from)) × (take r (now (buffer .exit)) ≡ take r (drop from (now (buffer .entry)))) ⌝ }
+{
+    let mut n = 0;
+    while n < LONGEST {
+        if from + n == to {
+            return n;
+        }
+        buffer[n] = buffer[from + n];
+        n += 1;
+    }
+    n
+}
+
+// How it goes on after a piece of input: with how much of a line, and whether at all.
+struct Rest {
+    schedule: Schedule,
+    kept: usize,
+    more: bool,
+}
+
+// Reads a piece behind what is kept of a line. No byte more is the end of the input, and so is a read that fails.
+fn take_turn(s: Schedule, kept: usize, buffer: &mut [u8], out: &mut [u8]) -> Rest
+    requires { ⌜ (sound s ≡ true) × (kept ≤ 69) × (length (now buffer) ≡ 65536) × (mostText ≤ length (now out)) ⌝ }
+    ensures { λ r. ⌜ (sound (r .schedule) ≡ true) × (r .kept ≤ 69) ⌝ }
+{
+    let got = libc::read(STDIN_FILENO, &mut buffer[kept..]);
+    let to = kept + io::count(got, &buffer[kept..]);
+    if to == kept {
+        return Rest {
+            schedule: s,
+            kept,
+            more: false,
+        };
+    }
+    let piece = print_lines(s, &buffer[..to], out);
+    let schedule = piece.schedule;
+    Rest {
+        schedule,
+        kept: keep(buffer, piece.read, to),
+        more: piece.written,
+    }
+}
+
+// The last line may lack its line feed.
+fn finish(s: Schedule, kept: usize, buffer: &mut [u8], out: &mut [u8])
+    requires { ⌜ (sound s ≡ true) × (kept ≤ 69) × (length (now buffer) ≡ 65536) × (mostText ≤ length (now out)) ⌝ }
+{
+    if 0 < kept {
+        buffer[kept] = b'\n';
+        let end = kept + 1;
+        print_lines(s, &buffer[..end], out);
+    }
+}
+
+fn left(turns: u64, more: bool) -> u64
+    requires { ⌜ 0 < turns ⌝ }
+    ensures { λ r. ⌜ r < turns ⌝ }
+{
+    if more {
+        return turns - 1;
+    }
+    0
+}
+
+// A proved loop has to end, and nothing says that the input does: the turns are counted down from a number that no run uses up.
+fn main() {
+    let mut buffer = io::large_buffer();
+    let mut out = io::large_buffer();
+    let mut s = Schedule::fresh();
+    let mut kept = 0;
+    let mut turns = u64::MAX;
+    while 0 < turns {
+        let t = take_turn(s, kept, &mut buffer, &mut out);
+        let next = t.schedule;
+        s = next;
+        kept = t.kept;
+        turns = left(turns, t.more);
+    }
+    finish(s, kept, &mut buffer, &mut out);
+}
