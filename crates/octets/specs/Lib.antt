@@ -1,0 +1,2 @@
+-- A number in a slice, read and written.
+pub mod Octets
