@@ -38,3 +38,6 @@ module _ (l : List ℕ) (b : Bytes l) where
   -- a number of fewer than 8 bytes has room for one more
   pub read-room : (n at : ℕ) → n < 8 → read n at l < 256 ^ 7
   read-room n at h = omega (arith, read-below n at, pow-le-pow-right {n = 256} (omega arith) {i = n} {j = 7} (omega arith))
+
+  pub get-fits : (n at : ℕ) → n ≤ 8 → at + n ≤ length l → {x : ℕ} → x ≡ getAt n at l → x < 256 ^ n
+  get-fits n at g h e = rw (e, get-inside n at l g h) (read-below n at)
