@@ -34,7 +34,7 @@ returns-4 c =
     let p = c .before .before .before .before .is-marked in
     let q = not-false (p .result) (c .before .before .before .if2 .left) in
     let n = not-false (m .result) (c .before .if3 .left) in
-    ?
+    rw (eq-eqb _ _ (c .before .before .before .before .before .if1 .left), ← p .ensures, q, ← m .ensures, n, c .schedule .ensures)
 
 pub read-spec : {M : Type 1} → statement M
 read-spec =
