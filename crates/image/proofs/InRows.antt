@@ -2,26 +2,21 @@
 use mathlib.Core.Path.{_≡_, refl, sym, ap, _∙_}
 use Prim.Native.Nat.{ℕ, zero, suc, _+_, _-_, _*_, _%_, _<_, _≤_}
 use mathlib.Core.Bool.{Bool, true, false, cond, _&&_}
-use mathlib.Core.List.{List, [], _∷_, _++_, append-assoc, append-nil}
+use mathlib.Core.List.{List, append-nil}
 use native.Mathlib.Omega.{arith}
 use native.Mathlib.Nat.{mul-suc}
 use native.Mathlib.Numerals.{add-one}
 use mir.Val.{boolByte}
 use lib.Dec.{leb}
-use lib.ListN.{length, take, drop, getD, set, length-set}
+use lib.ListN.{length, take, getD, set, length-set}
 use lib.Seq.{take-suc, take-suc-set, take-all, length-take-le}
 use Rattle.rules.specs.Lists.{overAt}
 use Rattle.rules.specs.Bytes.{read, flat, many}
 use Rattle.rules.specs.Image.{marked}
-use Rattle.rules.proofs.Numbers.{flat-length}
+use Rattle.rules.proofs.Numbers.{flat-length, flat-append, many-last}
 use Rattle.rules.proofs.Over.{over-then}
 
 module _ {A : Type 0} (f : ℕ → List ℕ → A) (k : ℕ) (l : List ℕ) where
-  many-last : (n at : ℕ) → many f k (suc n) at l ≡ many f k n at l ++ (f (at + k * n) l ∷ [])
-  unfolding many
-  many-last zero at = let z : at + k * 0 ≡ at = omega arith in rw z
-  many-last (suc n) at = let z : at + k * suc n ≡ at + k + k * n = omega (arith, mul-suc k n) in rw z (ap (_∷_ (f at l)) (many-last n (at + k)))
-
   -- the first i of an array of n were read
   pub record Filled (n at i : ℕ) (xs : List A) : Type 0 where
     pub size : length xs ≡ n
@@ -35,7 +30,7 @@ module _ {A : Type 0} (f : ℕ → List ℕ → A) (k : ℕ) (l : List ℕ) wher
   filled-more {n} {at} {i} {xs} p h {v} e =
       record {
         size = length-set xs i v ∙ p .size;
-        front = rw (add-one, take-suc-set xs i v (omega (arith, p .size)), p .front, e) (sym (many-last i at));
+        front = rw (add-one, take-suc-set xs i v (omega (arith, p .size)), p .front, e) (sym (many-last f k l i at));
       }
 
   pub filled-all : {n at : ℕ} {xs : List A} → Filled n at n xs → xs ≡ many f k n at l
@@ -54,11 +49,6 @@ next-mark k zero place l h = absurd (omega arith)
 next-mark k (suc n) place l h = let d : suc n - 1 ≡ n = omega arith in rw d (omega (arith, mul-suc k n), refl)
 
 module _ {A : Type 0} (put : A → List ℕ) (k : ℕ) (size : (x : A) → length (put x) ≡ k) where
-  flat-append : (xs ys : List A) → flat put (xs ++ ys) ≡ flat put xs ++ flat put ys
-  unfolding flat
-  flat-append [] ys = refl
-  flat-append (x ∷ xs) ys = rw (flat-append xs ys) (sym (append-assoc (put x) (flat put xs) (flat put ys)))
-
   -- the first i were written, and one more is
   module _ (xs : List A) (at : ℕ) (l : List ℕ) where
     pub wrote-more : (d : A) (i : ℕ) → i < length xs → at ≤ length l → {m n : List ℕ} → m ≡ overAt at (flat put (take i xs)) l

@@ -32,6 +32,7 @@ pub fn read(b: &[u8]) -> Loaded
     }
 }
 
+// What bytes that are no image give.
 fn no_image() -> Loaded
     ensures { λ r. ⌜ r ≡ noImage ⌝ }
 {

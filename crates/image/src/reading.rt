@@ -103,6 +103,7 @@ pub(crate) fn is_marked(b: &[u8], k: usize, n: usize, at: usize) -> bool
     true
 }
 
+// The 8 program entries.
 fn programs(b: &[u8]) -> [Program; 8]
     requires { ⌜ length (now b) ≡ imageSize ⌝ }
     ensures { λ r. ⌜ r ≡ many programFrom 6 8 9 (now (b .entry)) ⌝ }
@@ -121,6 +122,7 @@ fn programs(b: &[u8]) -> [Program; 8]
     programs
 }
 
+// The 48 event entries.
 fn entries(b: &[u8]) -> [Entry; 48]
     requires { ⌜ length (now b) ≡ imageSize ⌝ }
     ensures { λ r. ⌜ r ≡ many entryAt entrySize mostEvents 57 (now (b .entry)) ⌝ }

@@ -48,6 +48,7 @@ fn put_program(out: &mut [u8], at: usize, p: Program)
     octets::put(out, at + 2, 4, p.defaults as u64);
 }
 
+// The 8 program entries.
 pub(crate) fn put_programs(out: &mut [u8], programs: [Program; 8])
     requires { ⌜ length (now out) ≡ imageSize ⌝ }
     ensures { λ _. ⌜ now (out .exit) ≡ overAt 9 (flat programBytes programs) (now (out .entry)) ⌝ }
@@ -59,6 +60,7 @@ pub(crate) fn put_programs(out: &mut [u8], programs: [Program; 8])
     }
 }
 
+// The 48 event entries.
 pub(crate) fn put_entries(out: &mut [u8], entries: [Entry; 48])
     requires { ⌜ length (now out) ≡ imageSize ⌝ }
     ensures { λ _. ⌜ now (out .exit) ≡ overAt 57 (flat entryBytes entries) (now (out .entry)) ⌝ }

@@ -1,15 +1,12 @@
 -- The tests are those of `formed`, in its order.
-use mathlib.Core.Path.{_≡_, sym, _∙_}
-use mathlib.Core.Bool.{true, false, and-false}
-use native.Mathlib.Omega.{arith}
+use mathlib.Core.Path.{_∙_}
+use mathlib.Core.Bool.{and-false}
 use borrow.Author.Needs.{needs}
 use borrow.Author.Tests.{eq-eqb, ne-eqb, not-true, not-false}
-use Rattle.rules.specs.Image.{marked, formed}
+use Rattle.rules.specs.Image.{formed}
 use Rattle.image.specs.Exchange.{readOf}
 use Rattle.image.proofs.read.Statement.{statement}
 use Rattle.image.proofs.read.Tie as tie
-use Rattle.image.proofs.read.Reads as reads
-use Rattle.image.proofs.read.Lts as lts
 
 returns : tie.Need-returns
 unfolding readOf formed

@@ -1,15 +1,11 @@
 -- A buffer of another length is left alone; in one of the image's length its parts stand one after the other.
-use mathlib.Core.Path.{_≡_}
-use native.Mathlib.Omega.{arith}
 use borrow.Author.Needs.{needs}
 use borrow.Author.Tests.{ne-eqb}
-use lib.ListN.{length}
+use Rattle.rules.proofs.Lengths.{lengths}
 use Rattle.image.specs.Exchange.{writtenTo}
 use Rattle.image.proofs.Whole.{written}
 use Rattle.image.proofs.write.Statement.{statement}
 use Rattle.image.proofs.write.Tie as tie
-use Rattle.image.proofs.write.Reads as reads
-use Rattle.image.proofs.write.Lts as lts
 
 returns : tie.Need-returns
 unfolding writtenTo
@@ -24,11 +20,7 @@ returns-2 c =
     let t = p₁ .before .before in
     let start = t .before .before in
     let s = start .args .s in
-    let g = p₃ .before .before .programs .given in
-    let o = start .good .0 in
-    let eight : length (s .programs) ≡ 8 = ? in
-    let full : length (s .entries) ≡ 48 = omega (arith, p₄ .before .before .entries .given) in
-    written s eight full (start .args .out .now) (t .if1 .left) (p₁ .put .ensures) (p₂ .put2 .ensures) (p₃ .put-programs .ensures) (p₄ .put-entries .ensures)
+    written s (lengths s _ (start .good .0)) (start .args .out .now) (t .if1 .left) (p₁ .put .ensures) (p₂ .put2 .ensures) (p₃ .put-programs .ensures) (p₄ .put-entries .ensures)
 
 pub write-spec : {M : Type 1} → statement M
 write-spec =

@@ -7,8 +7,6 @@ use Rattle.rules.specs.Bytes.{entryAt}
 use Rattle.image.proofs.InRows.{Filled, filled-none, filled-more, filled-all}
 use Rattle.image.proofs.reading.entries.Statement.{statement}
 use Rattle.image.proofs.reading.entries.Tie as tie
-use Rattle.image.proofs.reading.entries.Reads as reads
-use Rattle.image.proofs.reading.entries.Lts as lts
 
 abbrev Inv-loop : tie.InvT-loop
 Inv-loop b entries₀ i₀ entries i = (i ≤ 48) × Filled entryAt 46 b 48 57 i entries

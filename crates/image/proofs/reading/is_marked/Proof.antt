@@ -1,6 +1,6 @@
 -- The loop has `left` marks left, from `place` on.
 use mathlib.Core.Path.{_≡_, refl, sym, _∙_}
-use Prim.Native.Nat.{_+_, _*_, _≤_, _<_}
+use Prim.Native.Nat.{_+_, _*_, _<_}
 use mathlib.Core.Bool.{true, false}
 use native.Mathlib.Omega.{arith}
 use borrow.Author.Needs.{needs}
@@ -12,8 +12,6 @@ use Rattle.rules.specs.Image.{marked}
 use Rattle.image.proofs.InRows.{next-mark}
 use Rattle.image.proofs.reading.is_marked.Statement.{statement}
 use Rattle.image.proofs.reading.is_marked.Tie as tie
-use Rattle.image.proofs.reading.is_marked.Reads as reads
-use Rattle.image.proofs.reading.is_marked.Lts as lts
 
 abbrev Inv-loop : tie.InvT-loop
 Inv-loop b k n at place₀ left₀ place left = (place + k * left < length b + k) × (marked k left place b ≡ marked k n at b)

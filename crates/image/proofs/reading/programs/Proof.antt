@@ -7,8 +7,6 @@ use Rattle.rules.specs.Image.{programFrom}
 use Rattle.image.proofs.InRows.{Filled, filled-none, filled-more, filled-all}
 use Rattle.image.proofs.reading.programs.Statement.{statement}
 use Rattle.image.proofs.reading.programs.Tie as tie
-use Rattle.image.proofs.reading.programs.Reads as reads
-use Rattle.image.proofs.reading.programs.Lts as lts
 
 abbrev Inv-loop : tie.InvT-loop
 Inv-loop b programs₀ i₀ programs i = (i ≤ 8) × Filled programFrom 6 b 8 9 i programs

@@ -1,4 +1,4 @@
--- A number of its width fits.
+-- The bytes are all there, and their number fits.
 use mathlib.Core.Path.{_∙_}
 use native.Mathlib.Omega.{arith}
 use borrow.Author.Needs.{needs}

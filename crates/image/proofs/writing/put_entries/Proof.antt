@@ -11,8 +11,6 @@ use Rattle.rules.proofs.Over.{over-none}
 use Rattle.image.proofs.InRows.{wrote-more, wrote-all}
 use Rattle.image.proofs.writing.put_entries.Statement.{statement}
 use Rattle.image.proofs.writing.put_entries.Tie as tie
-use Rattle.image.proofs.writing.put_entries.Reads as reads
-use Rattle.image.proofs.writing.put_entries.Lts as lts
 
 abbrev Inv-loop : tie.InvT-loop
 Inv-loop out₀ entries i₀ out i = (i ≤ 48) × (length out ≡ length out₀) × (out ≡ overAt 57 (flat entryBytes (take i entries)) out₀)

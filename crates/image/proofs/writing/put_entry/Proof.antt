@@ -1,5 +1,5 @@
 -- The event, and then field after field.
-use mathlib.Core.Path.{_≡_, refl}
+use mathlib.Core.Path.{refl}
 use Prim.Native.Nat.{_+_, _≤_}
 use mir.Val.{boolByte}
 use native.Mathlib.Omega.{arith}
@@ -10,8 +10,6 @@ use Rattle.octets.proofs.Writes.{wrote-none, also, then}
 use Rattle.image.proofs.InRows.{mark-byte}
 use Rattle.image.proofs.writing.put_entry.Statement.{statement}
 use Rattle.image.proofs.writing.put_entry.Tie as tie
-use Rattle.image.proofs.writing.put_entry.Reads as reads
-use Rattle.image.proofs.writing.put_entry.Lts as lts
 
 returns : tie.Need-returns
 unfolding big eventBytes entryBytes

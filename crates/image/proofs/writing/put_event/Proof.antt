@@ -1,5 +1,5 @@
--- Field after field. From the fifth on the search does not look far enough back for the buffer's length, so the function's entry is named.
-use mathlib.Core.Path.{_≡_, refl, ap, _∙_}
+-- Field after field. From the fifth on the search does not look far enough back for the buffer's length, so the entry of the function is named.
+use mathlib.Core.Path.{refl, ap, _∙_}
 use Prim.Native.Nat.{_+_, _≤_}
 use native.Mathlib.Omega.{arith}
 use borrow.Author.Needs.{needs}
@@ -9,8 +9,6 @@ use Rattle.rules.proofs.Over.{over-size}
 use Rattle.octets.proofs.Writes.{wrote-none, then}
 use Rattle.image.proofs.writing.put_event.Statement.{statement}
 use Rattle.image.proofs.writing.put_event.Tie as tie
-use Rattle.image.proofs.writing.put_event.Reads as reads
-use Rattle.image.proofs.writing.put_event.Lts as lts
 
 add-put-4 : tie.Need-add-put-4
 add-put-4 c = omega (arith, c .before .before .before .before .before .before .before .before .before .before .before .before .before .before .before .before .before .before .before .before .before)

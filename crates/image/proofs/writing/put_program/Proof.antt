@@ -1,5 +1,5 @@
 -- Field after field.
-use mathlib.Core.Path.{_≡_, refl}
+use mathlib.Core.Path.{refl}
 use Prim.Native.Nat.{_+_}
 use mir.Val.{boolByte}
 use native.Mathlib.Omega.{arith}
@@ -10,8 +10,6 @@ use Rattle.octets.proofs.Writes.{wrote-none, then}
 use Rattle.image.proofs.InRows.{mark-byte}
 use Rattle.image.proofs.writing.put_program.Statement.{statement}
 use Rattle.image.proofs.writing.put_program.Tie as tie
-use Rattle.image.proofs.writing.put_program.Reads as reads
-use Rattle.image.proofs.writing.put_program.Lts as lts
 
 returns : tie.Need-returns
 unfolding big programBytes

@@ -12,8 +12,6 @@ use Rattle.rules.proofs.Over.{over-none}
 use Rattle.image.proofs.InRows.{wrote-more, wrote-all}
 use Rattle.image.proofs.writing.put_programs.Statement.{statement}
 use Rattle.image.proofs.writing.put_programs.Tie as tie
-use Rattle.image.proofs.writing.put_programs.Reads as reads
-use Rattle.image.proofs.writing.put_programs.Lts as lts
 
 abbrev Inv-loop : tie.InvT-loop
 Inv-loop out₀ programs i₀ out i = (i ≤ 8) × (length out ≡ length out₀) × (out ≡ overAt 9 (flat programBytes (take i programs)) out₀)
