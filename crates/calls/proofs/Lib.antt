@@ -14,7 +14,6 @@ pub mod Finishing
 pub mod Advancing
 pub mod Backward
 pub mod Forward
-pub mod Lengths
 pub mod Answers
 pub mod Places
 pub mod Shifts

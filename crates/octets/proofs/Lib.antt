@@ -1,3 +1,3 @@
 -- What belongs to no one function.
-pub mod Writes
 pub mod Fits
+pub mod Writes

@@ -1,13 +1,16 @@
--- A number written from its back to its front.
-use mathlib.Core.Path.{_≡_, refl, sym, _∙_}
+-- A number written from its back to its front, and one number after the other.
+use mathlib.Core.Path.{_≡_, refl, sym, ap, _∙_}
 use Prim.Native.Nat.{ℕ, zero, suc, _+_, _-_, _/_, _%_, _<_, _≤_}
-use mathlib.Core.List.{List, _∷_, _++_, append-assoc}
+use mathlib.Core.List.{List, [], _∷_, _++_, append-assoc}
 use native.Mathlib.Omega.{arith}
-use lib.ListN.{length, take, drop, set, length-set, take-append-drop}
+use lib.ListN.{length, take, drop, set, length-set, length-append, take-append-drop}
 use lib.Seq.{set-split, drop-drop, take-set-le, length-take-le, drop-at}
 use Rattle.rules.specs.Lists.{overAt}
 use Rattle.rules.specs.Bytes.{big}
 use Rattle.rules.proofs.Numbers.{big-length}
+use Rattle.rules.proofs.Over.{over-none, over-then, over-size}
+use Rattle.octets.specs.Octets.{putAt}
+use Rattle.octets.proofs.Fits.{put-inside}
 
 stored : (l : List ℕ) (k a : ℕ) → k < length l → drop k (set l k a) ≡ a ∷ drop (suc k) l
 stored l k a h = rw (set-split l k a h) (drop-at (take k l) (a ∷ drop (suc k) l) k (length-take-le k l (omega arith)))
@@ -42,3 +45,24 @@ module _ {old : List ℕ} {at n x : ℕ} {new : List ℕ} {rest : ℕ} where
       let back : drop at new ≡ big n x ++ drop (at + n) old = rw z at (l .back) in
       let e : at + length (big n x) ≡ at + n = omega (arith, big-length n x) in
       sym (take-append-drop at new) ∙ rw (l .front, back, drop-drop, e)
+
+-- vs stand in a slice from `at` on
+pub record Wrote (old : List ℕ) (at : ℕ) (vs new : List ℕ) : Type 0 where
+  pub room : at + length vs ≤ length old
+  pub is : new ≡ overAt at vs old
+
+pub wrote-none : (l : List ℕ) (at : ℕ) → at ≤ length l → Wrote l at [] l
+wrote-none l at h = record { room = omega arith; is = sym (over-none at l) }
+
+-- and one list more, or the bytes of one number more
+module _ {old : List ℕ} {at : ℕ} {vs new : List ℕ} (w : Wrote old at vs new) (next : ℕ) (e : next ≡ at + length vs) {m : List ℕ} where
+  pub also : (ws : List ℕ) → next + length ws ≤ length old → m ≡ overAt next ws new → Wrote old at (vs ++ ws) m
+  also ws h q = record {
+    room = simp length-append (omega arith);
+    is = q ∙ rw (w .is, e) (over-then at vs ws old (omega (arith, w .room)));
+  }
+
+  pub then : (n x : ℕ) → next + n ≤ length old → m ≡ putAt n next x new → Wrote old at (vs ++ big n x) m
+  then n x h q =
+      let s : length new ≡ length old = ap length (w .is) ∙ over-size at vs old (w .room) in
+      also (big n x) (omega (arith, big-length n x)) (q ∙ put-inside n next new x (omega (arith, s)))

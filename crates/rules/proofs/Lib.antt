@@ -18,6 +18,7 @@ pub mod Numbers
 pub mod Entries
 pub mod Images
 pub mod Ranges
+pub mod Lengths
 pub mod Jump
 pub mod Interval
 pub mod Bound

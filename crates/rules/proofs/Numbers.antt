@@ -1,11 +1,11 @@
 -- Numbers and things in a row, and their bytes, are inverse: by induction over the width and over the things.
-use mathlib.Core.Path.{_≡_, refl, ap₂, _∙_}
+use mathlib.Core.Path.{_≡_, refl, sym, ap, ap₂, _∙_}
 use mathlib.Core.Logic.{inl, inr}
 use mathlib.Core.Bool.{true, and-eq-true-iff}
 use Prim.Native.Nat.{ℕ, zero, suc, _+_, _*_, _/_, _%_, _^_, _<_, _≤_}
 use mathlib.Core.List.{List, [], _∷_, _++_, append-assoc}
 use native.Mathlib.Omega.{arith}
-use native.Mathlib.Nat.{pow-succ', mul-suc}
+use native.Mathlib.Nat.{pow-suc, pow-succ', mul-suc}
 use borrow.Author.Tests.{leb-true, le-leb}
 use lib.Dec.{leb}
 use lib.ListN.{length, take, drop, getD, length-append, length-drop, List·getD-append, take-append-drop}
@@ -46,8 +46,13 @@ read-big (suc n) x h =
 abbrev pub Bytes : List ℕ → Type 0
 Bytes l = (i : ℕ) → getD l i 0 < 256
 
--- bytes are those of the number that they are
 module _ (l : List ℕ) (b : Bytes l) where
+  pub read-below : (n at : ℕ) → read n at l < 256 ^ n
+  unfolding read
+  read-below zero at = omega arith
+  read-below (suc n) at = omega (arith, read-below n at, b (at + n), pow-suc 256 n)
+
+  -- bytes are those of the number that they are
   pub big-read : (n at : ℕ) → at + n ≤ length l → big n (read n at l) ≡ take n (drop at l)
   unfolding big read
   big-read zero at h = refl
@@ -68,6 +73,19 @@ module _ {A : Type 0} (put : A → List ℕ) (k : ℕ) (size : (x : A) → lengt
   unfolding flat
   flat-length [] = omega arith
   flat-length (x ∷ xs) = simp length-append (omega (arith, size x, flat-length xs, mul-suc k (length xs)))
+
+pub flat-append : {A : Type 0} (put : A → List ℕ) (xs ys : List A) → flat put (xs ++ ys) ≡ flat put xs ++ flat put ys
+unfolding flat
+flat-append put [] ys = refl
+flat-append put (x ∷ xs) ys = rw (flat-append put xs ys) (sym (append-assoc (put x) (flat put xs) (flat put ys)))
+
+-- the last of n + 1 things
+pub many-last : {A : Type 0} (f : ℕ → List ℕ → A) (k : ℕ) (l : List ℕ) (n at : ℕ) → many f k (suc n) at l ≡ many f k n at l ++ (f (at + k * n) l ∷ [])
+unfolding many
+many-last f k l zero at = let z : at + k * 0 ≡ at = omega arith in rw z
+many-last f k l (suc n) at =
+    let z : at + k * suc n ≡ at + k + k * n = omega (arith, mul-suc k n) in
+    rw z (ap (_∷_ (f at l)) (many-last f k l n (at + k)))
 
 -- a thing of k bytes, with a mark at byte m, is inverse to its bytes; P says that its fields fit
 pub record Inverse {A : Type 0} (P : A → Type 0) (f : ℕ → List ℕ → A) (put : A → List ℕ) (k m : ℕ) : Type 0 where

@@ -1,9 +1,9 @@
 -- One list written over a part of another.
 use mathlib.Core.Path.{_≡_, sym, _∙_}
 use Prim.Native.Nat.{ℕ, _+_, _≤_}
-use mathlib.Core.List.{List, [], _++_, append-assoc}
+use mathlib.Core.List.{List, [], _++_, append-assoc, append-nil}
 use native.Mathlib.Omega.{arith}
-use lib.ListN.{length, take, drop, length-append, length-drop, take-append-drop}
+use lib.ListN.{length, take, drop, length-append, length-drop, drop-of-length-le, take-append-drop}
 use lib.Seq.{drop-drop, length-take-le, take-at, drop-at}
 use Rattle.rules.specs.Lists.{overAt}
 
@@ -23,3 +23,7 @@ module _ {A : Type 0} (at : ℕ) where
   -- what fits leaves the length
   pub over-size : (vs l : List A) → at + length vs ≤ length l → length (overAt at vs l) ≡ length l
   over-size vs l h = simp (length-append, length-drop) (omega (arith, length-take-le at l (omega arith)))
+
+-- a list over one that is no longer
+pub over-all : {A : Type 0} (vs l : List A) → length l ≤ length vs → overAt 0 vs l ≡ vs
+over-all vs l h = rw (drop-of-length-le l {i = length vs} h) (append-nil vs)

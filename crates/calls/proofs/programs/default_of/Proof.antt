@@ -6,9 +6,9 @@ use native.Mathlib.Omega.{arith}
 use borrow.Author.Needs.{needs}
 use lib.ListN.{length, drop}
 use Rattle.rules.specs.Calls.{defaultFor, bestDefault}
+use Rattle.rules.proofs.Lengths.{lengths}
 use Rattle.calls.specs.Best.{ranked}
 use Rattle.calls.proofs.Asking.{default-next, default-none, default-found, default-not}
-use Rattle.calls.proofs.Lengths.{lengths}
 use Rattle.calls.proofs.programs.default_of.Statement.{statement}
 use Rattle.calls.proofs.programs.default_of.Tie as tie
 

@@ -5,8 +5,8 @@ use native.Mathlib.Omega.{arith}
 use borrow.Author.Needs.{needs}
 use lib.ListN.{length, take, drop}
 use Rattle.rules.specs.Calls.{valueOf, holderIn}
+use Rattle.rules.proofs.Lengths.{lengths}
 use Rattle.calls.proofs.Asking.{held-here, not-here, none-holds}
-use Rattle.calls.proofs.Lengths.{lengths}
 use Rattle.calls.proofs.programs.holder_or.Statement.{statement}
 use Rattle.calls.proofs.programs.holder_or.Tie as tie
 

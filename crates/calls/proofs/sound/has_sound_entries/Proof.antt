@@ -4,7 +4,7 @@ use Prim.Native.Nat.{_≤_}
 use native.Mathlib.Omega.{arith}
 use lib.ListN.{take, drop}
 use Rattle.rules.specs.Records.{join, noEntry, programAt}
-use Rattle.calls.proofs.Lengths.{Lengths, lengths}
+use Rattle.rules.proofs.Lengths.{Lengths, lengths}
 use Rattle.calls.proofs.Backward.{Passed, start, turn}
 use Rattle.calls.proofs.sound.has_sound_entries.Statement.{statement}
 use Rattle.calls.proofs.sound.has_sound_entries.Tie as tie

@@ -7,7 +7,7 @@ use lib.ListN.{length, drop}
 use Rattle.rules.specs.Lists.{each}
 use Rattle.rules.specs.Records.{noProgram}
 use Rattle.rules.specs.Sound.{soundProgram}
-use Rattle.calls.proofs.Lengths.{lengths}
+use Rattle.rules.proofs.Lengths.{lengths}
 use Rattle.calls.proofs.Forward.{passed, failed, ended}
 use Rattle.calls.proofs.sound.has_sound_programs.Statement.{statement}
 use Rattle.calls.proofs.sound.has_sound_programs.Tie as tie

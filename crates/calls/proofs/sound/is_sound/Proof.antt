@@ -6,7 +6,7 @@ use lib.Dec.{leb}
 use Rattle.rules.specs.Records.{lastClock, mostEvents}
 use Rattle.rules.specs.Sound.{withinLimits, sound}
 use Rattle.rules.proofs.Tests.{each-true}
-use Rattle.calls.proofs.Lengths.{whole-always}
+use Rattle.rules.proofs.Lengths.{whole-always}
 use Rattle.calls.proofs.sound.is_sound.Statement.{statement}
 use Rattle.calls.proofs.sound.is_sound.Tie as tie
 

@@ -1,0 +1,49 @@
+-- The tests are those of `formed`, in its order.
+use mathlib.Core.Path.{_∙_}
+use mathlib.Core.Bool.{and-false}
+use borrow.Author.Needs.{needs}
+use borrow.Author.Tests.{eq-eqb, ne-eqb, not-true, not-false}
+use Rattle.rules.specs.Image.{formed}
+use Rattle.image.specs.Exchange.{readOf}
+use Rattle.image.proofs.read.Statement.{statement}
+use Rattle.image.proofs.read.Tie as tie
+
+returns : tie.Need-returns
+unfolding readOf formed
+returns c = c .no-image .ensures ∙ simp (ne-eqb _ _ (c .before .if1 .taken))
+
+returns-2 : tie.Need-returns-2
+unfolding readOf formed
+returns-2 c =
+    let m = c .before .before .is-marked in
+    c .no-image2 .ensures ∙ simp (← m .ensures, not-true (m .result) (c .before .if2 .taken), and-false)
+
+returns-3 : tie.Need-returns-3
+unfolding readOf formed
+returns-3 c =
+    let m = c .before .before .is-marked2 in
+    c .no-image3 .ensures ∙ simp (← m .ensures, not-true (m .result) (c .before .if3 .taken), and-false)
+
+returns-4 : tie.Need-returns-4
+unfolding readOf formed
+returns-4 c =
+    let m = c .before .before .is-marked2 in
+    let p = c .before .before .before .before .is-marked in
+    let q = not-false (p .result) (c .before .before .before .if2 .left) in
+    let n = not-false (m .result) (c .before .if3 .left) in
+    rw (eq-eqb _ _ (c .before .before .before .before .before .if1 .left), ← p .ensures, q, ← m .ensures, n, c .schedule .ensures)
+
+pub read-spec : {M : Type 1} → statement M
+read-spec =
+    tie.close
+    (tie.spec
+    (λ c κs. search needs)
+    returns
+    (λ c κs. search needs)
+    (λ c κs. search needs)
+    returns-2
+    (λ c κs. search needs)
+    (λ c κs. search needs)
+    returns-3
+    (λ c κs. search needs)
+    returns-4)

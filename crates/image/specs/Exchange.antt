@@ -1,0 +1,22 @@
+-- What is read from bytes, and what is written into a buffer.
+use Prim.Native.Nat.{ℕ}
+use mathlib.Core.Bool.{Bool, true, false, cond}
+use mathlib.Core.List.{List}
+use lib.Dec.{eqb}
+use lib.ListN.{length}
+use Rattle.rules.specs.declared.Schedule.{Schedule}
+use Rattle.rules.specs.Records.{fresh, pad}
+use Rattle.rules.specs.Image.{imageSize, image, loaded, formed}
+use Rattle.image.specs.declared.Loaded.{Loaded}
+
+-- of bytes that are no image: the fresh schedule
+abbrev pub noImage : Loaded
+noImage = record { formed = false; schedule = pad fresh }
+
+-- Frames and image, the schedule of an image that keeps its length and its marks, whatever else it says
+unfoldable pub readOf : List ℕ → Loaded
+readOf l = cond (formed l) (record { formed = true; schedule = loaded l }) noImage
+
+-- Frames and image, the image in a buffer of its length; any other buffer as it was
+unfoldable pub writtenTo : Schedule → List ℕ → Bool × List ℕ
+writtenTo s l = cond (eqb (length l) imageSize) (true, image s) (false, l)

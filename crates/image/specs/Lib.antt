@@ -1,0 +1,2 @@
+-- What reading and writing an image promise.
+pub mod Exchange
