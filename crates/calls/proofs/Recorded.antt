@@ -11,13 +11,12 @@ use Rattle.rules.specs.declared.Record.{Record}
 use Rattle.rules.specs.declared.Schedule.{Schedule}
 use Rattle.rules.specs.declared.Answer.the-variants.{Refused, Count}
 use Rattle.rules.specs.Lists.{over}
-use Rattle.rules.specs.Records.{noEntry, view, pad}
+use Rattle.rules.specs.Records.{noEntry, view}
 use Rattle.rules.specs.Sound.{sound}
 use Rattle.rules.specs.Refusals.{listChecks}
 use Rattle.rules.specs.Calls.{Outcome, recordOf, list, count, does, checks, call}
 use Rattle.rules.proofs.SoundState.{rules, pad-view}
 use Rattle.rules.proofs.CallLaws.{done}
-use Rattle.calls.specs.Answered.{outcomeOf}
 use Rattle.calls.specs.Listed.{noRecords, Lists}
 use Rattle.calls.proofs.Answers.{given, broken}
 use Rattle.calls.proofs.Copying.{copied-more, copied-all}
