@@ -30,7 +30,7 @@ loop-again c =
       l .inv .1,
       l .inv .2,
       l .inv .3,
-      ap (λ b. set b (l .i) (getD (a .rows .now) (l .i) 0)) (l .inv .4) ∙ copied-more (a .buffer .now) (a .rows .now) (l .i) (omega arith) (omega arith),
+      ap (λ b. set b (l .i) (getD (a .rows .now) (l .i) 0)) (l .inv .4) ∙ copied-more 0 (a .buffer .now) (a .rows .now) (l .i) (omega arith) (omega arith),
     )
 
 returns : tie.Need-returns Inv-loop μ-loop

@@ -1,0 +1,14 @@
+-- 48 times the record of a place that is not in use.
+use mathlib.Core.Path.{ap}
+use borrow.Author.Needs.{needs}
+use lib.ListN.{replicate}
+use Rattle.rules.specs.Records.{mostEvents}
+use Rattle.rules.specs.Calls.{recordOf}
+use Rattle.calls.proofs.listing.no_records.Statement.{statement}
+use Rattle.calls.proofs.listing.no_records.Tie as tie
+
+returns : tie.Need-returns
+returns c = ap (λ h. replicate mostEvents (recordOf h)) (c .none .ensures)
+
+pub no-records-spec : {M : Type 1} → statement M
+no-records-spec = tie.close (tie.spec (λ c κs. search needs) returns)
