@@ -21,7 +21,6 @@ pub mod Stored
 pub mod Adding
 pub mod Asking
 pub mod Copying
-pub mod Recorded
 pub mod Framed
 pub mod Ends
 pub mod Running

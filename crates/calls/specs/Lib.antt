@@ -1,6 +1,5 @@
 -- What the functions under the calls promise to each other.
 pub mod Answered
-pub mod Listed
 pub mod Best
 pub mod Found
 pub mod Columns

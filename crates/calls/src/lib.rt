@@ -2,9 +2,9 @@
 // one equation with `call` of the definitions, refusals included: first 2 for a schedule that breaks a rule, then the call's own numbers in order.
 ghost use mathlib.Core.Path.{_≡_};
 ghost use mathlib.Core.List.{[]};
-ghost use Rattle.rules.specs.Calls.{call, addProgram, deliver, cancel, setClock, ask, list};
+ghost use Rattle.rules.specs.Calls.{call, addProgram, deliver, cancel, setClock, ask};
+ghost use Rattle.rules.specs.Sound.{sound};
 ghost use Rattle.calls.specs.Answered.{outcomeOf};
-ghost use Rattle.calls.specs.Listed.{noRecords, listedOutcome};
 ghost use Rattle.calls.specs.Lines.{lineOutcome, ranOf, runOutcome};
 
 mod advance;
@@ -13,7 +13,6 @@ mod columns;
 mod events;
 mod finish;
 mod lines;
-mod listing;
 mod programs;
 mod reading;
 mod settle;
@@ -24,7 +23,6 @@ use rules::Answer;
 use rules::Event;
 use rules::Id;
 use rules::Line;
-use rules::Record;
 use rules::Schedule;
 
 // What a call returns.
@@ -33,18 +31,18 @@ pub struct Answered {
     pub schedule: Schedule,
 }
 
-// What a listing by value returns: the answer, and the lent list as the call left it.
-pub struct AnsweredList {
-    pub answer: Answer,
-    pub records: [Record; Schedule::EVENTS],
-    pub schedule: Schedule,
-}
-
 // What a run over lines returns: how many bytes it wrote, or its refusal; how many bytes of the lines it took.
 pub struct Ran {
     pub answer: Answer,
     pub read: usize,
     pub schedule: Schedule,
+}
+
+// Frames and image. Whether a schedule keeps every rule; a call refuses one that does not with 2.
+pub fn is_sound(s: Schedule) -> bool
+    ensures { λ r. ⌜ r ≡ sound s ⌝ }
+{
+    sound::is_sound(s)
 }
 
 // Calls, add a program: code 0.
@@ -110,37 +108,6 @@ pub fn ask(s: Schedule, control: u8) -> Answered
         answer: Answer::Refused(2),
         schedule: s,
     }
-}
-
-// Calls, list: a record for each held event by ascending id, over the front of 48 empty records, and their count as the answer.
-pub fn listed(s: Schedule) -> AnsweredList
-    ensures { λ r. ⌜ listedOutcome r ≡ call s (list noRecords) ⌝ }
-{
-    let l = listing::listing(s, Schedule::EVENTS);
-    let a = l.answered;
-    let answer = a.answer;
-    let records = l.records;
-    let schedule = a.schedule;
-    AnsweredList {
-        answer,
-        records,
-        schedule,
-    }
-}
-
-// Calls, list, into a list that the host lends: 13 if it is too short, and then it is untouched; what stands after the last record stays.
-pub fn list(s: Schedule, records: &mut [Record]) -> Answered
-    ensures { λ r. ⌜ outcomeOf r [] (now (records .exit)) ≡ call s (list (now (records .entry))) ⌝ }
-{
-    let l = listing::listing(s, records.len());
-    let from = l.records;
-    let n = l.count;
-    let mut i = 0;
-    while i < n {
-        records[i] = from[i];
-        i += 1;
-    }
-    l.answered
 }
 
 // Numbers given, 1. A line is decoded and its call made; the buffer is lent for the rows of a clock reading.

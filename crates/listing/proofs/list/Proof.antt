@@ -61,24 +61,24 @@ use Rattle.rules.proofs.Schedule as Sch
 use Rattle.rules.proofs.Schedule.Laws as Sch′
 use Rattle.rules.proofs.Record as Rec
 use Rattle.rules.proofs.Record.Laws as Rec′
 use Rattle.calls.specs.declared.Answered.{Answered}
-use Rattle.calls.specs.declared.listing.Written.{Written}
+use Rattle.listing.specs.declared.records.Written.{Written}
 use Rattle.calls.specs.Answered.{outcomeOf}
-use Rattle.calls.specs.Listed.{Lists}
+use Rattle.listing.specs.Listed.{Lists}
 use Rattle.calls.proofs.Copying.{copied-more, copied-all, copied-length, over-length}
 use Rattle.calls.proofs.Answered as Ans
 use Rattle.calls.proofs.Answered.Laws as Ans′
-use Rattle.calls.proofs.listing.Written as Wr
-use Rattle.calls.proofs.listing.Written.Laws as Wr′
-use Rattle.calls.proofs.listing.listing as listing
-use Rattle.calls.proofs.listing.listing.Symbol as listing-def
-use Rattle.calls.proofs.listing.listing.Symbol.{name as #listing}
-use Rattle.calls.proofs.listing.listing.Met as listing-thm
-use Rattle.calls.proofs.list.Key.{name as #list}
-use Rattle.calls.proofs.list as list′
-use Rattle.calls.proofs.list.Statement as stated
-use Rattle.calls.proofs.list.Code as code
-use Rattle.calls.proofs.list.Code.Mir as body
+use Rattle.listing.proofs.records.Written as Wr
+use Rattle.listing.proofs.records.Written.Laws as Wr′
+use Rattle.listing.proofs.records.listing as listing
+use Rattle.listing.proofs.records.listing.Symbol as listing-def
+use Rattle.listing.proofs.records.listing.Symbol.{name as #listing}
+use Rattle.listing.proofs.records.listing.Met as listing-thm
+use Rattle.listing.proofs.list.Key.{name as #list}
+use Rattle.listing.proofs.list as list′
+use Rattle.listing.proofs.list.Statement as stated
+use Rattle.listing.proofs.list.Code as code
+use Rattle.listing.proofs.list.Code.Mir as body
 
 abbrev R : RattleType
 R = Rec.the-row
@@ -330,4 +330,4 @@ list-spec 𝓤 H 𝓜 𝓖 𝓡 =
     entered 𝓤 H (tripleOf 𝓤 H (𝓖 .A) list′.signature (list′.spec 𝓤 H (𝓖 .A) (𝓜 .mem) (𝓡 .run)))
     (tables 𝓤 H 𝓜 𝓡 code.env .C) (tables 𝓤 H 𝓜 𝓡 code.env .Λ) #list code.function (code.unfolded 𝓤 H 𝓜 𝓡)
     (list-meets 𝓤 H (𝓖 .A) (givenOf 𝓤 H 𝓜 𝓖) (𝓜 .mem) (𝓡 .run) (tablesOf 𝓤 H 𝓜 (tables 𝓤 H 𝓜 𝓡 code.env))
-    (cited 𝓤 H (Listing 𝓤 H (𝓖 .A) (𝓜 .mem) (𝓡 .run)) 𝓜 𝓡 code.env #listing listing-def.routine code.calls-calls·listing·listing (listing-thm.met 𝓤 H 𝓜 𝓖 𝓡)))
+    (cited 𝓤 H (Listing 𝓤 H (𝓖 .A) (𝓜 .mem) (𝓡 .run)) 𝓜 𝓡 code.env #listing listing-def.routine code.calls-listing·records·listing (listing-thm.met 𝓤 H 𝓜 𝓖 𝓡)))

@@ -8,9 +8,9 @@ use Rattle.rules.specs.declared.Schedule.{Schedule}
 use Rattle.rules.specs.Lists.{over}
 use Rattle.rules.specs.Records.{mostEvents, noEntry}
 use Rattle.rules.specs.Calls.{Outcome, numberOf, valueOf, recordOf, list, call}
-use Rattle.calls.specs.declared.AnsweredList.{AnsweredList}
-use Rattle.calls.specs.declared.listing.Written.{Written}
+use Rattle.listing.specs.declared.AnsweredList.{AnsweredList}
+use Rattle.listing.specs.declared.records.Written.{Written}
 use Rattle.calls.specs.Answered.{outcomeOf}
 
 -- a list of empty records, one for each event that can be held
 abbrev pub noRecords : List Record

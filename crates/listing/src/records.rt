@@ -6,9 +6,8 @@ ghost use Rattle.rules.specs.Lists.{over};
 ghost use Rattle.rules.specs.Records.{view};
 ghost use Rattle.rules.specs.Sound.{sound};
 ghost use Rattle.rules.specs.Calls.{recordOf};
-ghost use Rattle.calls.specs.Listed.{noRecords, Lists};
-use crate::Answered;
-use crate::sound;
+ghost use Rattle.listing.specs.Listed.{noRecords, Lists};
+use calls::Answered;
 use rules::Answer;
 use rules::Entry;
 use rules::Record;
@@ -50,7 +49,7 @@ pub(crate) fn listing(s: Schedule, room: usize) -> Written
     ensures { λ r. ⌜ Lists s room r ⌝ }
 {
     let none = no_records();
-    if !sound::is_sound(s) {
+    if !calls::is_sound(s) {
         let answered = Answered {
             answer: Answer::Refused(2),
             schedule: s,

@@ -2,9 +2,9 @@
 use mathlib.Core.Path.{sym, _∙_}
 use borrow.Author.Needs.{needs}
 use borrow.Author.Tests.{not-true, not-false}
-use Rattle.calls.proofs.Recorded.{lists-broken, lists-short, lists-all}
-use Rattle.calls.proofs.listing.listing.Statement.{statement}
-use Rattle.calls.proofs.listing.listing.Tie as tie
+use Rattle.listing.proofs.Recorded.{lists-broken, lists-short, lists-all}
+use Rattle.listing.proofs.records.listing.Statement.{statement}
+use Rattle.listing.proofs.records.listing.Tie as tie
 
 returns : tie.Need-returns
 returns c =

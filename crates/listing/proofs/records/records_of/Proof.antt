@@ -8,10 +8,10 @@ use lib.ListN.{length, take, drop, getD, set, length-set}
 use Rattle.rules.specs.Records.{noEntry}
 use Rattle.rules.specs.Calls.{recordOf}
 use Rattle.rules.proofs.SoundState.{rules}
-use Rattle.calls.specs.Listed.{noRecords}
-use Rattle.calls.proofs.Recorded.{held, recorded-more, recorded-all}
-use Rattle.calls.proofs.listing.records_of.Statement.{statement}
-use Rattle.calls.proofs.listing.records_of.Tie as tie
+use Rattle.listing.specs.Listed.{noRecords}
+use Rattle.listing.proofs.Recorded.{held, recorded-more, recorded-all}
+use Rattle.listing.proofs.records.records_of.Statement.{statement}
+use Rattle.listing.proofs.records.records_of.Tie as tie
 
 abbrev Inv-loop : tie.InvT-loop
 Inv-loop s n records₀ i₀ records i = (i ≤ n) × (n ≤ 48) × (length (s .entries) ≡ 48) × (length records ≡ 48) × (records ≡ take i (held s) ++ drop i noRecords)

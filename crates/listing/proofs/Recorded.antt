@@ -17,10 +17,10 @@ use Rattle.rules.specs.Refusals.{listChecks}
 use Rattle.rules.specs.Calls.{Outcome, recordOf, list, count, does, checks, call}
 use Rattle.rules.proofs.SoundState.{rules, pad-view}
 use Rattle.rules.proofs.CallLaws.{done}
-use Rattle.calls.specs.Listed.{noRecords, Lists}
+use Rattle.listing.specs.Listed.{noRecords, Lists}
 use Rattle.calls.proofs.Answers.{given, broken}
 use Rattle.calls.proofs.Copying.{copied-more, copied-all}
 use Rattle.calls.proofs.Places.{in-count}
 
 module _ (s : Schedule) where
   abbrev pub held : List Record

@@ -1,11 +1,11 @@
 -- What the call leaves of 48 empty records.
 use mathlib.Core.Path.{refl, ap, _∙_}
 use borrow.Author.Needs.{needs}
-use Rattle.calls.specs.Listed.{noRecords}
+use Rattle.listing.specs.Listed.{noRecords}
 use Rattle.calls.specs.Answered.{outcomeOf}
 use mathlib.Core.List.{[]}
-use Rattle.calls.proofs.listed.Statement.{statement}
-use Rattle.calls.proofs.listed.Tie as tie
+use Rattle.listing.proofs.listed.Statement.{statement}
+use Rattle.listing.proofs.listed.Tie as tie
 
 returns : tie.Need-returns
 returns c =

@@ -4,8 +4,8 @@ use borrow.Author.Needs.{needs}
 use lib.ListN.{replicate}
 use Rattle.rules.specs.Records.{mostEvents}
 use Rattle.rules.specs.Calls.{recordOf}
-use Rattle.calls.proofs.listing.no_records.Statement.{statement}
-use Rattle.calls.proofs.listing.no_records.Tie as tie
+use Rattle.listing.proofs.records.no_records.Statement.{statement}
+use Rattle.listing.proofs.records.no_records.Tie as tie
 
 returns : tie.Need-returns
 returns c = ap (λ h. replicate mostEvents (recordOf h)) (c .none .ensures)

@@ -1,0 +1,2 @@
+-- What a listing says of every lent list.
+pub mod Listed
