@@ -25,5 +25,4 @@ pub mod Framed
 pub mod Ends
 pub mod Running
 pub mod Said
-pub mod Printing
 pub mod Progress

@@ -16,10 +16,10 @@ use Rattle.rules.specs.Sound.{sound}
 use Rattle.rules.specs.Calls.{Value, nothing, code, count, holder, default, nobody, Outcome, valueOf, counted, call}
 use Rattle.rules.specs.Frames.{lineOf, frameCall}
 use Rattle.rules.specs.Printed.{digits, threeText, refusedText, codeText, rowsText, askText, frameText, room, tellFrame, tellLine, tell}
-use Rattle.calls.specs.Texts.{mostText}
+use Rattle.text.specs.Texts.{mostText}
 use Rattle.calls.specs.Lines.{frameOutcome, endedOf, Run, runs, RunOutcome, ranOf, ranInto, runOutcome}
 use Rattle.calls.specs.declared.Ran.{Ran}
-use Rattle.calls.proofs.Printing.{decimal-length, three-length, rows-length}
+use Rattle.text.proofs.Printing.{decimal-length, three-length, rows-length}
 use Rattle.calls.proofs.Said.{few-counted}
 use Rattle.calls.proofs.Running.{after, sound-told, runs-within}
 

@@ -5,6 +5,7 @@ use mathlib.Core.Bool.{Bool, true, false, cond}
 use mathlib.Core.List.{List, [], _∷_}
 use mathlib.Core.Option.{Option, none, some}
 use native.Mathlib.Omega.{arith}
+use borrow.Author.Tests.{le-leb}
 use lib.Dec.{eqb}
 use lib.ListN.{length, take, drop, length-take}
 use lib.Seq.{take-at, length-take-le}
@@ -22,7 +23,7 @@ use Rattle.rules.specs.Printed.{refusedText, frameText, room, Told, tellFrame, 
 use Rattle.rules.proofs.Bound.{few-rows}
 use Rattle.calls.specs.Lines.{frameOutcome}
 use Rattle.calls.specs.declared.lines.Telling.{Telling}
-use Rattle.calls.specs.Texts.{Stands}
+use Rattle.text.specs.Texts.{Stands, ifRoom}
 use Rattle.calls.specs.Says.{Says}
 
 -- what is read of a call's bytes is what its frame leaves
@@ -49,6 +50,13 @@ front-within {text = text} {r} h = omega (arith, h .count, ap length (h .front),
 
 pub front-length : {s : Schedule} {l text : List ℕ} {r : Telling} → Says s l text r → length (take (r .length) text) ≡ r .length
 front-length {text = text} {r} h = length-take-le (r .length) text (front-within h)
+
+-- a line's text, put where there is room for it
+pub put-there : {s : Schedule} {line text : List ℕ} {r : Telling} {l m : List ℕ} {at k : ℕ} → Says s line text r
+    → Stands l at (ifRoom (length (take (r .length) text)) at l (take (r .length) text)) m k → at + r .length ≤ length l → Stands l at (tell s line .text) m k
+put-there {text = text} {r} {l} {m} {at} h s f =
+    let t = take (r .length) text in
+    rw (h .front) at (rw (le-leb (at + length t) (length l) (omega (arith, front-length h))) at s)
 
 module _ (s : Schedule) (l : List ℕ) where
   pub tell-bad : Bad ≡ lineOf l → tell s l ≡ record { state = s; text = refusedText 1 }

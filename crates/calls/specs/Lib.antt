@@ -9,5 +9,4 @@ pub mod Finished
 pub mod Advanced
 pub mod Settled
 pub mod Lines
-pub mod Texts
 pub mod Says

@@ -17,7 +17,6 @@ mod programs;
 mod reading;
 mod settle;
 mod sound;
-mod text;
 
 use rules::Answer;
 use rules::Event;

@@ -6,7 +6,7 @@ ghost use mathlib.Core.List.{[]};
 ghost use lib.ListN.{length, drop};
 ghost use Rattle.rules.specs.Sound.{sound};
 ghost use Rattle.calls.specs.Answered.{outcomeOf};
-ghost use Rattle.calls.specs.Texts.{mostText};
+ghost use Rattle.text.specs.Texts.{mostText};
 ghost use Rattle.calls.specs.Says.{Says};
 ghost use Rattle.calls.specs.Lines.{frameOutcome, endedOf, upTo, runs, ranOf, ranInto};
 use crate::Answered;
@@ -14,7 +14,6 @@ use crate::Ran;
 use crate::events;
 use crate::programs;
 use crate::reading;
-use crate::text;
 use rules::Answer;
 use rules::Frame;
 use rules::Line;
@@ -96,7 +95,7 @@ pub(crate) fn run(mut s: Schedule, lines: &[u8], out: &mut [u8]) -> Ran
         if out.len() - at < n {
             break;
         }
-        at = text::word(out, at, &text[..n]);
+        at = text::put(out, at, &text[..n]);
         let next = told.schedule;
         s = next;
         from = end + 1;

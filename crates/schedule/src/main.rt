@@ -8,7 +8,7 @@ ghost use lib.ListN.{length, take, drop};
 ghost use Rattle.rules.specs.Sound.{sound};
 ghost use Rattle.rules.specs.Calls.{valueOf, counted};
 ghost use Rattle.calls.specs.Lines.{endedOf};
-ghost use Rattle.calls.specs.Texts.{mostText};
+ghost use Rattle.text.specs.Texts.{mostText};
 use libc::STDIN_FILENO;
 use libc::STDOUT_FILENO;
 use rules::Answer;

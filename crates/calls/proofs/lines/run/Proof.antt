@@ -6,7 +6,7 @@ use borrow.Author.Needs.{needs}
 use lib.ListN.{length}
 use Rattle.calls.proofs.Running.{Running, running-none, running-size, running-end, running-stop, running-past, running-more}
 use Rattle.calls.proofs.Ends.{end-within}
-use Rattle.calls.proofs.Said.{front-within, front-length}
+use Rattle.calls.proofs.Said.{front-within, front-length, put-there}
 use Rattle.calls.proofs.lines.run.Statement.{statement}
 use Rattle.calls.proofs.lines.run.Tie as tie
 
@@ -45,13 +45,8 @@ sub-if2 c =
 array-share-prefix-text : tie.Need-array-share-prefix-text Inv-loop μ-loop
 array-share-prefix-text c = omega (arith, front-within (c .before .before .before .tell .ensures))
 
-slice-aggregate-word : tie.Need-slice-aggregate-word Inv-loop μ-loop
-slice-aggregate-word c = sym (front-length (c .before .before .before .before .tell .ensures))
-
-word-requires : tie.Need-word-requires Inv-loop μ-loop
-word-requires c κs =
-    let l = c .before .before .before .before .before .before .before .before .before .before .loop in
-    omega (arith, l .inv .1 .fits, running-size (l .inv .1), c .before .before .if2 .left, front-length (c .before .before .before .before .tell .ensures))
+slice-aggregate-put : tie.Need-slice-aggregate-put Inv-loop μ-loop
+slice-aggregate-put c = sym (front-length (c .before .before .before .before .tell .ensures))
 
 add-from : tie.Need-add-from Inv-loop μ-loop
 add-from c =
@@ -66,14 +61,14 @@ loop-again : tie.Need-loop-again Inv-loop μ-loop
 loop-again c =
     let e = c .before .before .before .before .before .before .before .before .before .before .before .before in
     let l = e .before .before .loop in
-    let w = c .before .before .before .word .ensures in
     let t = c .before .before .before .before .before .before .before .before .tell .ensures in
+    let w = put-there t (c .before .before .before .put .ensures) (omega (arith, l .inv .1 .fits, running-size (l .inv .1), c .before .before .before .before .before .before .if2 .left)) in
     let b = c .before .before .before .before .before .before .before .before .before .before .before in
     let a = e .before .before .before .before .before .args in
     let last = end-within (a .lines .now) (l .from) (l .inv .1 .within) in
     let more = running-more (l .inv .1) (e .end-of .result) (e .end-of .ensures) (omega (arith, b .if1 .left, e .end-of .ensures, last)) (t .count)
-    (omega (arith, c .before .before .before .before .before .before .if2 .left, running-size (l .inv .1))) (t .state) (rw (t .front) at (w .is)) in
-    (search needs, rw (← (w .end ∙ ap (_+_ (l .at)) (front-length t))) at more)
+    (omega (arith, c .before .before .before .before .before .before .if2 .left, running-size (l .inv .1))) (t .state) (w .is) in
+    (search needs, rw (← (w .end ∙ ap (_+_ (l .at)) (sym (t .count)))) at more)
 
 same-length : tie.Need-same-length Inv-loop μ-loop
 same-length c = running-size (c .before .loop .inv .1)
@@ -111,8 +106,8 @@ run-spec =
     tell-requires
     sub-if2
     array-share-prefix-text
-    slice-aggregate-word
-    word-requires
+    slice-aggregate-put
+    (λ c κs. search needs)
     add-from
     loop-less
     loop-again

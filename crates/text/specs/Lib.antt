@@ -1,0 +1,2 @@
+-- Texts in a buffer.
+pub mod Texts

@@ -1,0 +1,27 @@
+-- Texts written into a buffer, one behind the other.
+use mathlib.Core.Path.{_≡_}
+use Prim.Native.Nat.{ℕ, _+_}
+use mathlib.Core.Bool.{cond}
+use mathlib.Core.List.{List, []}
+use lib.Dec.{leb}
+use lib.ListN.{length}
+use Rattle.rules.specs.Lists.{overAt}
+use Rattle.rules.specs.Bytes.{read}
+use Rattle.rules.specs.Printed.{threeText}
+
+-- a text stands in a buffer from `at` on, and `behind` is the place behind it
+pub record Stands (old : List ℕ) (at : ℕ) (text new : List ℕ) (behind : ℕ) : Type 0 where
+  pub end : behind ≡ at + length text
+  pub is : new ≡ overAt at text old
+
+-- no line's text is longer: 96 rows of three numbers of at most 20 digits
+abbrev pub mostText : ℕ
+mostText = 6048
+
+-- the text of the row that stands at `at`
+abbrev pub rowText : ℕ → List ℕ → List ℕ
+rowText at b = threeText (read 8 at b) (read 8 (at + 8) b) (read 1 (at + 16) b)
+
+-- a text, if a buffer has room for `most` bytes from `at` on
+abbrev pub ifRoom : ℕ → ℕ → List ℕ → List ℕ → List ℕ
+ifRoom most at out text = cond (leb (at + most) (length out)) text []

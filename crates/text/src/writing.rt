@@ -1,0 +1,196 @@
+// Texts where there is room for them. Each function writes from `at` on and returns the place behind what it wrote.
+ghost use mathlib.Core.Path.{_≡_};
+ghost use mathlib.Core.Bool.{cond};
+ghost use mathlib.Core.List.{[], _∷_, _++_};
+ghost use Prim.Native.Nat.{_+_, _*_, _≤_};
+ghost use lib.Dec.{eqb};
+ghost use lib.ListN.{length};
+ghost use Rattle.rules.specs.Calls.{Outcome, numberOf, valueOf, counted};
+ghost use Rattle.rules.specs.Printed.{decimal, digits, space, refusedText, threeText, codeText, rowsText, askText, frameText};
+ghost use Rattle.text.specs.Texts.{Stands, mostText, rowText};
+use rules::Answer;
+use rules::Frame;
+use rules::Id;
+
+// The last n decimal digits of a number, no zero in front: first all before the last one, as the definition says. It calls itself at most n times deep.
+fn decimal(out: &mut [u8], at: usize, n: usize, x: u64) -> usize
+    requires { ⌜ at + n ≤ length (now out) ⌝ }
+    ensures { λ r. ⌜ Stands (now (out .entry)) at (decimal n x) (now (out .exit)) r ⌝ }
+{
+    if n == 0 {
+        return at;
+    }
+    if x < 10 {
+        out[at] = b'0' + x as u8;
+        return at + 1;
+    }
+    let last = decimal(out, at, n - 1, x / 10);
+    out[last] = b'0' + (x % 10) as u8;
+    last + 1
+}
+
+// A number and the byte behind it.
+fn number(out: &mut [u8], at: usize, x: u64, behind: u8) -> usize
+    requires { ⌜ at + 21 ≤ length (now out) ⌝ }
+    ensures { λ r. ⌜ Stands (now (out .entry)) at (digits x ++ (behind ∷ [])) (now (out .exit)) r ⌝ }
+{
+    let end = decimal(out, at, 20, x);
+    out[end] = behind;
+    end + 1
+}
+
+// A word, byte by byte.
+pub(crate) fn word(out: &mut [u8], at: usize, w: &[u8]) -> usize
+    requires { ⌜ at + length (now w) ≤ length (now out) ⌝ }
+    ensures { λ r. ⌜ Stands (now (out .entry)) at (now (w .entry)) (now (out .exit)) r ⌝ }
+{
+    let mut i = 0;
+    while i < w.len() {
+        out[at + i] = w[i];
+        i += 1;
+    }
+    at + i
+}
+
+// refused n
+pub(crate) fn refused(out: &mut [u8], at: usize, n: u8) -> usize
+    requires { ⌜ at + 29 ≤ length (now out) ⌝ }
+    ensures { λ r. ⌜ Stands (now (out .entry)) at (refusedText n) (now (out .exit)) r ⌝ }
+{
+    let behind = word(out, at, b"refused ");
+    number(out, behind, n as u64, b'\n')
+}
+
+// Three numbers: a clock or a time, an id, a code.
+fn three(out: &mut [u8], at: usize, t: u64, id: Id, k: u8) -> usize
+    requires { ⌜ at + 63 ≤ length (now out) ⌝ }
+    ensures { λ r. ⌜ Stands (now (out .entry)) at (threeText t (id .value) k) (now (out .exit)) r ⌝ }
+{
+    let second = number(out, at, t, b' ');
+    let third = number(out, second, id.value, b' ');
+    number(out, third, k as u64, b'\n')
+}
+
+// A call that names an id and gives a code; nothing for code 0.
+fn code_text(out: &mut [u8], at: usize, clock: u64, id: Id, answer: Answer) -> usize
+    requires { ⌜ at + 63 ≤ length (now out) ⌝ }
+    ensures { λ r. ⌜ Stands (now (out .entry)) at (codeText clock (id .value) (valueOf answer)) (now (out .exit)) r ⌝ }
+{
+    match answer {
+        Answer::Code(k) => {
+            if k == 0 {
+                return at;
+            }
+            three(out, at, clock, id, k)
+        }
+        _ => at,
+    }
+}
+
+// A control and a word.
+fn control_text(out: &mut [u8], at: usize, control: u8, w: &[u8]) -> usize
+    requires { ⌜ at + (21 + length (now w)) ≤ length (now out) ⌝ }
+    ensures { λ r. ⌜ Stands (now (out .entry)) at (digits control ++ (space ++ now (w .entry))) (now (out .exit)) r ⌝ }
+{
+    let behind = number(out, at, control as u64, b' ');
+    word(out, behind, w)
+}
+
+// A question: control event id, control default program, or control none.
+fn ask_text(out: &mut [u8], at: usize, control: u8, answer: Answer) -> usize
+    requires { ⌜ at + 50 ≤ length (now out) ⌝ }
+    ensures { λ r. ⌜ Stands (now (out .entry)) at (askText control (valueOf answer)) (now (out .exit)) r ⌝ }
+{
+    match answer {
+        Answer::Holder(id) => {
+            let behind = control_text(out, at, control, b"event ");
+            number(out, behind, id.value, b'\n')
+        }
+        Answer::Default(program) => {
+            let behind = control_text(out, at, control, b"default ");
+            number(out, behind, program as u64, b'\n')
+        }
+        Answer::Nobody => control_text(out, at, control, b"none\n"),
+        _ => at,
+    }
+}
+
+// The number of a refusal, 0 for an answer that is none.
+fn number_of(answer: Answer) -> u8
+    ensures { λ r. ⌜ r ≡ numberOf answer ⌝ }
+{
+    match answer {
+        Answer::Refused(n) => n,
+        Answer::Code(_) => 0,
+        Answer::Count(_) => 0,
+        Answer::Holder(_) => 0,
+        Answer::Default(_) => 0,
+        Answer::Nobody => 0,
+    }
+}
+
+// How many rows an answer counts.
+pub(crate) fn count_of(answer: Answer) -> usize
+    ensures { λ r. ⌜ r ≡ counted (valueOf answer) ⌝ }
+{
+    match answer {
+        Answer::Refused(_) => 0,
+        Answer::Code(_) => 0,
+        Answer::Count(n) => n,
+        Answer::Holder(_) => 0,
+        Answer::Default(_) => 0,
+        Answer::Nobody => 0,
+    }
+}
+
+// The row that stands in the buffer at `from`.
+fn row_text(out: &mut [u8], at: usize, rows: &[u8], from: usize) -> usize
+    requires { ⌜ (from + 17 ≤ length (now rows)) × (at + 63 ≤ length (now out)) ⌝ }
+    ensures { λ r. ⌜ Stands (now (out .entry)) at (rowText from (now (rows .entry))) (now (out .exit)) r ⌝ }
+{
+    let time = octets::get(rows, from, 8);
+    let id = Id {
+        value: octets::get(rows, from + 8, 8),
+    };
+    three(out, at, time, id, rows[from + 16])
+}
+
+// The rows in a buffer.
+fn rows_text(out: &mut [u8], at: usize, rows: &[u8], count: usize) -> usize
+    requires { ⌜ (17 * count ≤ length (now rows)) × (at + 63 * count ≤ length (now out)) ⌝ }
+    ensures { λ r. ⌜ Stands (now (out .entry)) at (rowsText count 0 (now (rows .entry))) (now (out .exit)) r ⌝ }
+{
+    let mut behind = at;
+    let mut i = 0;
+    while i < count {
+        behind = row_text(out, behind, rows, 17 * i);
+        i += 1;
+    }
+    behind
+}
+
+// What a frame's call gives to print. `clock` is the schedule's before the call, `rows` the buffer that a clock reading was lent.
+pub(crate) fn told(
+    out: &mut [u8],
+    at: usize,
+    clock: u64,
+    f: Frame,
+    answer: Answer,
+    rows: &[u8],
+) -> usize
+    requires { ⌜ (at + mostText ≤ length (now out)) × (length (now rows) ≡ 1632) × (counted (valueOf answer) ≤ 96) ⌝ }
+    ensures { λ r. ⌜ ((o : Outcome) → o .number ≡ numberOf answer → o .value ≡ valueOf answer → o .bytes ≡ now (rows .entry)
+        → Stands (now (out .entry)) at (cond (eqb (o .number) 0) (frameText clock f o) (refusedText (o .number))) (now (out .exit)) r) ⌝ }
+{
+    let n = number_of(answer);
+    if n != 0 {
+        return refused(out, at, n);
+    }
+    match f {
+        Frame::Event(e) => code_text(out, at, clock, e.id, answer),
+        Frame::Cancel(id) => code_text(out, at, clock, id, answer),
+        Frame::Clock(_) => rows_text(out, at, rows, count_of(answer)),
+        Frame::Program(_, _, _) => at,
+        Frame::Ask(control) => ask_text(out, at, control, answer),
+    }
+}

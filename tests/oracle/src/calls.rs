@@ -1,0 +1,201 @@
+//! The six calls, and the lines and printed output that rest on them.
+
+use crate::event::{Event, Program};
+use crate::frame::{decode, Frame};
+use crate::image::Record;
+
+pub const ROW_BYTES: usize = 17;
+
+/// Enough for the rows of any clock call: an event gives two rows at most.
+pub const AMPLE: usize = 2 * crate::event::MOST_EVENTS * ROW_BYTES;
+
+#[derive(Clone, Copy, PartialEq, Eq, Debug)]
+pub struct Row {
+    pub time: u64,
+    pub id: u64,
+    pub code: u8,
+}
+
+impl Row {
+    pub fn bytes(&self) -> [u8; ROW_BYTES] {
+        let mut bytes = [0; ROW_BYTES];
+        bytes[..8].copy_from_slice(&self.time.to_be_bytes());
+        bytes[8..16].copy_from_slice(&self.id.to_be_bytes());
+        bytes[16] = self.code;
+        bytes
+    }
+
+    /// Rows of one moment go by code in the order 3, 7, 2.
+    pub fn place(&self) -> (u64, u8, u64) {
+        let class = match self.code {
+            3 => 0,
+            7 => 1,
+            _ => 2,
+        };
+        (self.time, class, self.id)
+    }
+}
+
+#[derive(Clone, Copy, PartialEq, Eq, Debug)]
+pub enum Answer {
+    Event(u64),
+    Default(u8),
+    None,
+}
+
+/// Each call gives the refusal number as its error, and then has changed nothing.
+pub trait Calls {
+    fn clock(&self) -> u64;
+
+    fn add_program(&mut self, number: u8, program: Program) -> Result<(), u8>;
+
+    /// Gives code 1, or 0 for an equal event that is held already.
+    fn deliver(&mut self, event: &Event) -> Result<u8, u8>;
+
+    /// Gives code 6, or 0 if the event was cancelled before.
+    fn cancel(&mut self, id: u64) -> Result<u8, u8>;
+
+    /// `room` is the length of the caller's buffer in bytes.
+    fn set_clock(&mut self, reading: u64, room: usize) -> Result<&[Row], u8>;
+
+    fn ask(&mut self, control: u8) -> Result<Answer, u8>;
+
+    /// `room` is the length of the caller's list in records.
+    fn list(&mut self, room: usize) -> Result<Vec<Record>, u8>;
+
+    /// Runs one line, without its line feed, and prints what the program `schedule` prints.
+    fn line(&mut self, bytes: &[u8], out: &mut Vec<u8>) {
+        if let Err(number) = self.act(bytes, out) {
+            print_refusal(number, out);
+        }
+    }
+
+    fn act(&mut self, bytes: &[u8], out: &mut Vec<u8>) -> Result<(), u8> {
+        match decode(bytes).ok_or(1)? {
+            Frame::Event(event) => {
+                let code = self.deliver(&event)?;
+                print_code(self.clock(), event.id, code, out);
+            }
+            Frame::Cancel(id) => {
+                let code = self.cancel(id)?;
+                print_code(self.clock(), id, code, out);
+            }
+            Frame::Clock(reading) => print_rows(self.set_clock(reading, AMPLE)?, out),
+            Frame::Program(number, program) => self.add_program(number, program)?,
+            Frame::Ask(control) => print_answer(control, self.ask(control)?, out),
+        }
+        Ok(())
+    }
+
+    /// Runs a whole text of lines. A line feed at the end begins no further line.
+    fn text(&mut self, text: &[u8], out: &mut Vec<u8>) {
+        for line in lines_of(text) {
+            self.line(line, out);
+        }
+    }
+}
+
+pub fn lines_of(text: &[u8]) -> impl Iterator<Item = &[u8]> {
+    text.split_inclusive(|&byte| byte == b'\n')
+        .map(|line| line.strip_suffix(b"\n").unwrap_or(line))
+}
+
+/// A printed line, made from its right end so that numbers need no turning round.
+struct Printed {
+    bytes: [u8; Printed::LONGEST],
+    first: usize,
+}
+
+impl Printed {
+    /// Room for two numbers of 20 digits, a third of 3 and the signs between.
+    const LONGEST: usize = 48;
+
+    fn new() -> Self {
+        let mut printed = Printed {
+            bytes: [0; Printed::LONGEST],
+            first: Printed::LONGEST,
+        };
+        printed.before(b"\n");
+        printed
+    }
+
+    fn before(&mut self, text: &[u8]) {
+        let end = self.first;
+        self.first -= text.len();
+        self.bytes[self.first..end].copy_from_slice(text);
+    }
+
+    /// Two digits at a time, as dividing is what costs.
+    fn number_before(&mut self, mut number: u64) {
+        while number >= 100 {
+            let pair = (number % 100) as usize;
+            number /= 100;
+            self.before(&DIGIT_PAIRS[pair]);
+        }
+        let pair = DIGIT_PAIRS[number as usize];
+        if number >= 10 {
+            self.before(&pair);
+        } else {
+            self.before(&pair[1..]);
+        }
+    }
+
+    fn put(&self, out: &mut Vec<u8>) {
+        out.extend_from_slice(&self.bytes[self.first..]);
+    }
+}
+
+const DIGIT_PAIRS: [[u8; 2]; 100] = digit_pairs();
+
+const fn digit_pairs() -> [[u8; 2]; 100] {
+    let mut pairs = [[0; 2]; 100];
+    let mut number = 0;
+    while number < 100 {
+        pairs[number] = [b'0' + number as u8 / 10, b'0' + number as u8 % 10];
+        number += 1;
+    }
+    pairs
+}
+
+fn print_refusal(number: u8, out: &mut Vec<u8>) {
+    let mut printed = Printed::new();
+    printed.number_before(number.into());
+    printed.before(b"refused ");
+    printed.put(out);
+}
+
+fn print_code(clock: u64, id: u64, code: u8, out: &mut Vec<u8>) {
+    if code == 0 {
+        return;
+    }
+    let mut printed = Printed::new();
+    printed.number_before(code.into());
+    printed.before(b" ");
+    printed.number_before(id);
+    printed.before(b" ");
+    printed.number_before(clock);
+    printed.put(out);
+}
+
+fn print_rows(rows: &[Row], out: &mut Vec<u8>) {
+    for row in rows {
+        print_code(row.time, row.id, row.code, out);
+    }
+}
+
+fn print_answer(control: u8, answer: Answer, out: &mut Vec<u8>) {
+    let mut printed = Printed::new();
+    match answer {
+        Answer::Event(id) => {
+            printed.number_before(id);
+            printed.before(b" event ");
+        }
+        Answer::Default(number) => {
+            printed.number_before(number.into());
+            printed.before(b" default ");
+        }
+        Answer::None => printed.before(b" none"),
+    }
+    printed.number_before(control.into());
+    printed.put(out);
+}

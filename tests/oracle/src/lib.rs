@@ -1,0 +1,27 @@
+//! An independent scheduler for document 01, made to be compared with a proved one.
+//!
+//! `Scheduler` works every answer out from the history of accepted calls by intervals. `Fast` keeps
+//! only the present state and is the rival in speed. Both speak the six calls of `Calls`, which
+//! also runs lines and prints their output.
+
+pub mod bench;
+pub mod calls;
+pub mod event;
+pub mod fast;
+pub mod frame;
+pub mod generate;
+pub mod history;
+pub mod image;
+pub mod pair;
+pub mod program;
+pub mod random;
+
+pub use calls::{Answer, Calls, Row};
+pub use event::{Event, Program};
+pub use fast::Fast;
+pub use frame::{decode, Frame};
+pub use history::Scheduler;
+pub use image::Record;
+
+#[cfg(test)]
+mod tests;

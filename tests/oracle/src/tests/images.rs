@@ -1,0 +1,304 @@
+//! Images: the rules, the way there and back, and states that no run reaches.
+
+use super::naive::Naive;
+use crate::calls::lines_of;
+use crate::event::CONTROLS;
+use crate::generate::generate;
+use crate::image::{self, Image, IMAGE_BYTES};
+use crate::random::Dice;
+use crate::{decode, Calls, Event, Fast, Frame, Program, Record, Scheduler};
+
+use super::support::{event, program, rows_to};
+
+fn one_program() -> [Option<Program>; 8] {
+    let mut programs = [None; 8];
+    programs[0] = Some(program(0, 1));
+    programs
+}
+
+/// An image at clock 5100 whose only event started at 5000.
+fn base() -> Image {
+    let record = Record {
+        event: event(7),
+        effective_start: 5_000,
+        held: 1,
+        cancelled: false,
+    };
+    Image {
+        clock: 5_100,
+        programs: one_program(),
+        records: vec![record],
+    }
+}
+
+fn accepts(change: impl Fn(&mut Image)) -> bool {
+    let mut image = base();
+    change(&mut image);
+    let bytes = image::write(&image);
+    let loaded = Scheduler::from_image(&bytes);
+    if let Some(mut scheduler) = loaded.clone() {
+        assert_eq!(scheduler.to_image(), bytes);
+    }
+    loaded.is_some()
+}
+
+fn accepts_bytes(change: impl Fn(&mut Vec<u8>)) -> bool {
+    let mut bytes = image::write(&base());
+    change(&mut bytes);
+    Scheduler::from_image(&bytes).is_some()
+}
+
+#[test]
+fn fresh_is_zero() {
+    assert_eq!(Scheduler::fresh().to_image(), vec![0; IMAGE_BYTES]);
+    assert!(Scheduler::from_image(&[0; IMAGE_BYTES]).is_some());
+    assert!(Scheduler::from_image(&[0; IMAGE_BYTES - 1]).is_none());
+    assert!(Scheduler::from_image(&[0; IMAGE_BYTES + 1]).is_none());
+    assert!(Scheduler::from_image(&[]).is_none());
+}
+
+#[test]
+fn head_and_program_rules() {
+    assert!(accepts(|_| ()));
+    assert!(accepts(|i| {
+        i.records.clear();
+        i.clock = 9_000_000_000;
+    }));
+    assert!(!accepts(|i| {
+        i.records.clear();
+        i.clock = 9_000_000_001;
+    }));
+    assert!(!accepts_bytes(|b| b[8] = 0));
+    assert!(!accepts_bytes(|b| b[8] = 2));
+    assert!(!accepts_bytes(|b| b[8] = 49));
+    assert!(!accepts_bytes(|b| b[8] = 255));
+    assert!(!accepts_bytes(|b| b[9] = 2));
+    assert!(!accepts_bytes(|b| b[9] = 0));
+    assert!(!accepts_bytes(|b| b[10] = 3));
+    assert!(accepts_bytes(|b| b[10] = 191));
+    assert!(!accepts_bytes(|b| b[16] = 1));
+    assert!(!accepts_bytes(|b| b[20] = 1));
+    assert!(!accepts_bytes(|b| b[2_264] = 1));
+    assert!(!accepts_bytes(|b| b[57 + 45] = 2));
+}
+
+#[test]
+fn event_rules() {
+    let first = |change: fn(&mut Record)| accepts(|image| change(&mut image.records[0]));
+    assert!(!first(|r| r.event.program = 1));
+    assert!(!first(|r| r.event.program = 8));
+    assert!(!first(|r| r.event.controls = 0));
+    assert!(!first(|r| r.event.start_draw = 1));
+    assert!(first(|r| r.effective_start = 5_100));
+    assert!(!first(|r| r.effective_start = 4_999));
+    assert!(!first(|r| r.effective_start = 5_101));
+    assert!(first(|r| (r.effective_start, r.held) = (5_101, 0)));
+    assert!(first(|r| (r.effective_start, r.held) = (5_599, 0)));
+    assert!(!first(|r| (r.effective_start, r.held) = (5_600, 0)));
+    assert!(first(|r| r.held = 0));
+    assert!(!first(|r| r.held = 2));
+    assert!(!first(|r| r.cancelled = true));
+    assert!(first(|r| (r.cancelled, r.held) = (true, 0)));
+    assert!(accepts(|i| i.clock = 5_599));
+    assert!(!accepts(|i| i.clock = 5_600));
+}
+
+#[test]
+fn rules_between_events() {
+    let with = |id, controls, held| {
+        accepts(|image| {
+            image.records.push(Record {
+                event: Event {
+                    controls,
+                    ..event(id)
+                },
+                effective_start: 5_050,
+                held,
+                cancelled: false,
+            })
+        })
+    };
+    assert!(with(8, 3, 2));
+    assert!(with(8, 3, 0));
+    assert!(!with(8, 3, 3));
+    assert!(!with(8, 3, 1));
+    assert!(!with(7, 2, 2));
+    assert!(!with(6, 2, 2));
+}
+
+/// A holder of an image that a better event displaces in the next second gives its 7.
+#[test]
+fn displaced_right_after_the_image() {
+    let mut image = base();
+    image.records.push(Record {
+        event: Event {
+            creation: 900,
+            start: 5_101,
+            ..event(8)
+        },
+        effective_start: 5_101,
+        held: 0,
+        cancelled: false,
+    });
+    let bytes = image::write(&image);
+    let mut scheduler = Scheduler::from_image(&bytes).expect("an image");
+    let expected = [(5_101, 7, 7), (5_101, 8, 2)];
+    assert_eq!(rows_to(&mut scheduler, 5_101), expected);
+}
+
+/// A better event that had started without holding never comes to hold.
+#[test]
+fn a_started_event_gains_nothing() {
+    let mut image = base();
+    image.records.push(Record {
+        event: Event {
+            creation: 900,
+            duration: 700,
+            ..event(8)
+        },
+        effective_start: 5_000,
+        held: 0,
+        cancelled: false,
+    });
+    let bytes = image::write(&image);
+    let mut scheduler = Scheduler::from_image(&bytes).expect("an image");
+    assert_eq!(rows_to(&mut scheduler, 5_900), [(5_600, 7, 3)]);
+}
+
+/// Tight and mostly overlapping events in any state that the rules allow.
+fn random_image(dice: &mut Dice) -> Image {
+    let clock = dice.pick(&[0, 3_600, 3_620, 3_630, 3_640]);
+    let mut programs = [None; 8];
+    for slot in &mut programs {
+        let primacy = dice.pick(&[0, 1, 1, 2, 65]);
+        *slot = Some(program(primacy, dice.roll() as u32 & 15));
+    }
+    let mut ids: Vec<u64> = (0..dice.below(14)).map(|_| dice.below(60)).collect();
+    ids.sort();
+    ids.dedup();
+    let mut free = u32::MAX;
+    let records = ids
+        .into_iter()
+        .filter_map(|id| random_record(dice, id, clock, &mut free));
+    let records = records.collect();
+    Image {
+        clock,
+        programs,
+        records,
+    }
+}
+
+fn random_record(dice: &mut Dice, id: u64, clock: u64, free: &mut u32) -> Option<Record> {
+    let early = clock == 0 && dice.chance(1, 2);
+    let draw = if early { -3_600 } else { 0 };
+    let event = Event {
+        id,
+        program: dice.below(8) as u8,
+        controls: dice.pick(&[1, 2, 3, 7, 0xFF, u32::MAX]),
+        creation: dice.below(3) as u32,
+        start: 3_600 + dice.below(50) as u32,
+        duration: 1 + dice.below(60) as u32,
+        randomize_start: draw,
+        start_draw: draw,
+        ..Event::default()
+    };
+    let length = event.effective_end() - event.drawn_start();
+    let delay = dice.pick(&[0, 0, length - 1, dice.clone().below(length)]);
+    let effective_start = event.drawn_start() + delay;
+    let cancelled = dice.chance(1, 5);
+    let mut held = 0;
+    if effective_start <= clock && !cancelled {
+        held = event.controls & *free & dice.pick(&[0, 1, 3, 6, u32::MAX]);
+        *free &= !held;
+    }
+    (event.effective_end() > clock).then_some(Record {
+        event,
+        effective_start,
+        held,
+        cancelled,
+    })
+}
+
+/// Lines of a generated list from near the image's clock on, which fit tight times.
+fn lines_after(seed: u64, clock: u64) -> Vec<Vec<u8>> {
+    let text = generate(seed, 120, "tight").expect("a profile");
+    let wanted = |line: &&[u8]| match decode(line) {
+        Some(Frame::Clock(reading)) => reading >= clock,
+        other => other.is_some(),
+    };
+    lines_of(&text).filter(wanted).map(<[u8]>::to_vec).collect()
+}
+
+#[test]
+fn states_that_no_run_reaches_run_on() {
+    let mut dice = Dice::new(41);
+    let mut loaded = 0;
+    for seed in 0..4_000 {
+        let image = random_image(&mut dice);
+        let bytes = image::write(&image);
+        let mut history = Scheduler::from_image(&bytes).expect("an image");
+        let mut fast = Fast::from_image(&bytes).expect("an image");
+        let mut naive = Naive::from_image(&bytes).expect("an image");
+        assert_eq!(history.to_image(), bytes);
+        assert_eq!(fast.to_image(), bytes);
+        loaded += image.records.len();
+        for line in lines_after(seed, image.clock) {
+            step_all(&mut history, &mut fast, &mut naive, &line, seed);
+        }
+    }
+    assert!(loaded > 10_000, "{loaded}");
+}
+
+fn step_all(history: &mut Scheduler, fast: &mut Fast, naive: &mut Naive, line: &[u8], seed: u64) {
+    let mut out = [Vec::new(), Vec::new(), Vec::new()];
+    history.line(line, &mut out[0]);
+    fast.line(line, &mut out[1]);
+    naive.line(line, &mut out[2]);
+    assert_eq!(out[0], out[1], "seed {seed}");
+    assert_eq!(out[0], out[2], "seed {seed}");
+    let image = history.to_image();
+    assert_eq!(image, fast.to_image(), "seed {seed}");
+    assert_eq!(image, naive.to_image(), "seed {seed}");
+}
+
+/// Storing and loading between any two calls changes nothing.
+#[test]
+fn image_between_calls_changes_nothing() {
+    for seed in 0..150 {
+        let text = generate(seed, 200, "mixed").expect("a profile");
+        let mut kept = Scheduler::fresh();
+        let mut bytes = vec![0; IMAGE_BYTES];
+        for line in lines_of(&text) {
+            let (mut out, mut again) = (Vec::new(), Vec::new());
+            kept.line(line, &mut out);
+            let mut loaded = Scheduler::from_image(&bytes).expect("a stored image");
+            loaded.line(line, &mut again);
+            bytes = loaded.to_image();
+            assert_eq!(out, again, "seed {seed}");
+            assert_eq!(bytes, kept.to_image(), "seed {seed}");
+        }
+    }
+}
+
+/// Whatever a changed byte makes of an image, an accepted one comes back as it was.
+#[test]
+fn accepted_images_come_back() {
+    let mut dice = Dice::new(5);
+    let (mut accepted, mut refused) = (0, 0);
+    for _ in 0..20_000 {
+        let image = random_image(&mut dice);
+        let mut bytes = image::write(&image);
+        let used = 57 + 46 * image.records.len() as u64;
+        let at = dice.below(used + 4) as usize;
+        bytes[at] = dice.pick(&[0, 1, 2, 255, dice.clone().roll() as u8]);
+        match Scheduler::from_image(&bytes) {
+            Some(mut scheduler) => {
+                assert_eq!(scheduler.to_image(), bytes);
+                accepted += 1;
+            }
+            None => refused += 1,
+        }
+    }
+    assert!(accepted > 2_000 && refused > 2_000, "{accepted} {refused}");
+    assert_eq!(CONTROLS, 32);
+}
