@@ -1,16 +1,17 @@
--- After a call that fits, all that is held fits. Events and programs are given by calls and kept as they came; held masks lie within the
--- controls, and effective starts before the effective ends.
+-- After calls that fit, every field of the schedule fits. Calls give programs and events, which are kept as they came; a held mask lies within the
+-- controls, and an effective start before the effective end.
 use mathlib.Core.Path.{_≡_, refl}
 use mathlib.Core.Logic.{inl, inr, ⊎-elim}
 use Prim.Native.Nat.{ℕ, zero, suc, _-_}
 use mathlib.Core.Bool.{Bool, true, false, cond}
-use mathlib.Core.List.{List, [], _∷_, map}
+use mathlib.Core.List.{List, [], _∷_}
 use mathlib.Core.Option.{Option, none, some}
 use native.Mathlib.Omega.{arith}
 use lib.ListN.{length, replicate}
 use borrow.Author.Needs.{needs}
 use Rattle.rules.specs.declared.Event.{Event}
 use Rattle.rules.specs.declared.Entry.{Entry}
+use Rattle.rules.specs.declared.Program.{Program}
 use Rattle.rules.specs.declared.Schedule.{Schedule}
 use Rattle.rules.specs.Lists.{keep, All}
 use Rattle.rules.specs.Records.{State, idOf, mostEvents, noEntry, fresh, view, pad}
@@ -30,7 +31,7 @@ use Rattle.rules.proofs.SoundState.{SoundEntry, Sound, sound-pad, sound-view}
 use Rattle.rules.proofs.SoundKept.{sound-does, sound-fresh, sound-call}
 use Rattle.powercut.specs.PowerCut.{FieldsFit, Fits}
 
--- what calls give to a state and leave in it
+-- what calls bring to a state
 pub record FitsState (s : State) : Type 0 where
   pub programs : All FitsProgram (s .programs)
   pub events : All (λ h. FitsEvent (h .event)) (s .entries)
@@ -39,7 +40,7 @@ event-fits : (e : Event) → FieldsFit e → FitsEvent e
 event-fits e f = search needs
 
 -- the rest of a sound entry fits if its event does
-entry-fits : (ps : _) (clock : ℕ) (h : Entry) → SoundEntry ps clock h → FitsEvent (h .event) → FitsEntry h
+entry-fits : (ps : List Program) (clock : ℕ) (h : Entry) → SoundEntry ps clock h → FitsEvent (h .event) → FitsEntry h
 unfolding effectiveEnd drawnStart
 entry-fits ps clock h v f = record {
   event = f;
@@ -47,7 +48,7 @@ entry-fits ps clock h v f = record {
   held = omega (arith, within-below (h .held) (h .event .controls) (v .within), f .controls);
 }
 
-pub fits-pad : (s : State) → Sound s → FitsState s → FitsSchedule (pad s)
+fits-pad : (s : State) → Sound s → FitsState s → FitsSchedule (pad s)
 fits-pad s v f = record {
   programs = f .programs;
   entries = λ h m. ⊎-elim (λ k. entry-fits (s .programs) (s .clock) h (v .entries h k) (f .events h k))
@@ -55,7 +56,7 @@ fits-pad s v f = record {
       (in-append h (s .entries) (replicate (mostEvents - length (s .entries)) noEntry) m);
 }
 
-pub fits-view : (s : Schedule) → FitsSchedule s → FitsState (view s)
+fits-view : (s : Schedule) → FitsSchedule s → FitsState (view s)
 fits-view s f = record { programs = f .programs; events = λ h m. f .entries h (in-take h (s .count) (s .entries) m) .event }
 
 fits-advance : (n : ℕ) (s : State) → FitsState s → FitsState (advance n s .state)
@@ -115,6 +116,6 @@ storable-fresh = record { rules = sound-pad fresh sound-fresh; fits = fresh-fits
 pub storable-after : (cs : List Call) → All Fits cs → Storable (after cs)
 storable-after cs f = storable-run cs f (pad fresh) storable-fresh
 
--- and is read again from its image
+-- it is read again from its image
 pub stored : (s : Schedule) → Storable s → ImageKept s
 stored s v = image-kept s (v .rules) (v .fits)

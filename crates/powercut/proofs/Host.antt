@@ -14,7 +14,7 @@ use Rattle.rules.specs.Sound.{sound}
 use Rattle.rules.specs.Calls.{ask, does, accepts, accepted, refused, call, run}
 use Rattle.rules.specs.Arrival.{after}
 use Rattle.rules.specs.Image.{imageSize, image, loaded, formed, imaged}
-use Rattle.rules.specs.Face.{Operation, addsProgram, delivers, cancels, setsClock, asks, lists, asCall, idTooLong, negative, face, faceFresh}
+use Rattle.rules.specs.Face.{Operation, addsProgram, delivers, cancels, setsClock, asks, lists, asCall, idTooLong, face, faceFresh}
 use Rattle.rules.proofs.Tests.{both}
 use Rattle.rules.proofs.ListLaws.{all-map}
 use Rattle.rules.proofs.SoundState.{pad-view}

@@ -75,7 +75,7 @@ pub record SeenByHost (l : List ℕ) (s : Schedule) (op : Operation) (lent : Lis
 pub record HostRun (b : List ℕ) (xs : List Lending) : Type 0 where
   -- the image after them is that of the schedule after the calls by value
   pub image-after : hostRun (faceFresh b .image) xs ≡ image (after (map byValue xs))
-  -- and whatever operation comes next gives what its call by value gives
+  -- and whatever operation comes next gives what its call by value gives. So does each of a list, as the next of those before it.
   pub next : (op : Operation) (lent : List ℕ) → SeenByHost (hostRun (faceFresh b .image) xs) (after (map byValue xs)) op lent
 
 -- Frames and image, the power cut: of every list of calls and of every list of operations whose numbers fit
