@@ -12,8 +12,6 @@ pub mod Settling
 pub mod Claimants
 pub mod Finishing
 pub mod Advancing
-pub mod Backward
-pub mod Forward
 pub mod Answers
 pub mod Places
 pub mod Shifts

@@ -4,7 +4,6 @@ pub mod Best
 pub mod Found
 pub mod Columns
 pub mod Held
-pub mod HeldRules
 pub mod Finished
 pub mod Advanced
 pub mod Settled

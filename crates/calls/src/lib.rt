@@ -3,7 +3,6 @@
 ghost use mathlib.Core.Path.{_≡_};
 ghost use mathlib.Core.List.{[]};
 ghost use Rattle.rules.specs.Calls.{call, addProgram, deliver, cancel, setClock, ask};
-ghost use Rattle.rules.specs.Sound.{sound};
 ghost use Rattle.calls.specs.Answered.{outcomeOf};
 ghost use Rattle.calls.specs.Lines.{lineOutcome, ranOf, runOutcome};
 
@@ -16,7 +15,6 @@ mod lines;
 mod programs;
 mod reading;
 mod settle;
-mod sound;
 
 use rules::Answer;
 use rules::Event;
@@ -35,13 +33,6 @@ pub struct Ran {
     pub answer: Answer,
     pub read: usize,
     pub schedule: Schedule,
-}
-
-// Frames and image. Whether a schedule keeps every rule; a call refuses one that does not with 2.
-pub fn is_sound(s: Schedule) -> bool
-    ensures { λ r. ⌜ r ≡ sound s ⌝ }
-{
-    sound::is_sound(s)
 }
 
 // Calls, add a program: code 0.

@@ -49,7 +49,7 @@ pub(crate) fn listing(s: Schedule, room: usize) -> Written
     ensures { λ r. ⌜ Lists s room r ⌝ }
 {
     let none = no_records();
-    if !calls::is_sound(s) {
+    if !sound::is_sound(s) {
         let answered = Answered {
             answer: Answer::Refused(2),
             schedule: s,

@@ -4,11 +4,12 @@ use Prim.Native.Nat.{ℕ, zero, suc, _+_, _*_, _^_, _<_, _≤_}
 use mathlib.Core.Bool.{Bool, true, false, cond}
 use mathlib.Core.List.{List, _++_, append-assoc}
 use native.Mathlib.Omega.{arith}
+use borrow.Author.Needs.{needs}
 use lib.Dec.{eqb}
 use lib.ListN.{length, drop}
 use Rattle.rules.specs.declared.Event.{Event}
 use Rattle.rules.specs.declared.Entry.{Entry}
-use Rattle.rules.specs.Records.{idOf}
+use Rattle.rules.specs.Records.{idOf, noEntry}
 use Rattle.rules.specs.Bytes.{big, read, eventAt, eventBytes, entryAt, entryBytes, flag}
 use Rattle.rules.proofs.Numbers.{Bytes, read-big, read-drop, piece, Inverse}
 
@@ -29,6 +30,10 @@ pub record FitsEntry (h : Entry) : Type 0 where
   pub event : FitsEvent (h .event)
   pub begins : h .begins < 256 ^ 8
   pub held : h .held < 256 ^ 4
+
+-- a place that is not in use
+pub none-fits : FitsEntry noEntry
+none-fits = search needs
 
 pub entry-size : (h : Entry) → length (entryBytes h) ≡ 46
 unfolding entryBytes eventBytes big

@@ -1,28 +1,23 @@
 -- The C face does what the call by value does, and its numbers and values tell answers apart.
-use mathlib.Core.Path.{_≡_, refl, sym, ap, ap₂, _∙_, subst}
-use Prim.Native.Nat.{ℕ, _<_, _^_}
+use mathlib.Core.Path.{_≡_, refl, sym, ap, ap₂, _∙_}
+use Prim.Native.Nat.{ℕ}
 use mathlib.Core.Bool.{Bool, true, false, cond, not}
 use mathlib.Core.List.{List, [], _∷_}
-use mathlib.Core.Logic.{inl, inr}
 use native.Mathlib.Omega.{arith}
-use lib.Dec.{eqb, lit<}
-use lib.ListN.{length, replicate}
+use lib.Dec.{eqb}
+use lib.ListN.{length}
 use borrow.Author.Tests.{eq-eqb, ne-eqb}
 use Rattle.rules.specs.declared.Id.{Id}
 use Rattle.rules.specs.declared.Answer.{Answer}
 use Rattle.rules.specs.declared.Answer.the-variants.{Refused, Code, Count, Holder, Default, Nobody}
-use Rattle.rules.specs.Lists.{All}
-use Rattle.rules.specs.Records.{noProgram, noEvent, noEntry, fresh, pad}
-use Rattle.rules.specs.Sound.{whole, withinLimits, sound}
-use Rattle.rules.specs.Image.{imageSize, image, loaded, formed, imaged}
+use Rattle.rules.specs.Records.{fresh, pad}
+use Rattle.rules.specs.Image.{imageSize, image, loaded, imaged}
 use Rattle.rules.specs.Calls.{Value, nothing, code, count, holder, default, nobody, numberOf, valueOf, call}
 use Rattle.rules.specs.Face.{Operation, asCall, idTooLong, shown, negative, lentAfter, face, faceFresh}
-use Rattle.rules.specs.Clauses.{AnswerClause, FaceClauses}
-use Rattle.rules.proofs.ListLaws.{in-replicate}
+use Rattle.rules.specs.Clauses.{AnswerClause, FaceClauses, ImageKept}
 use Rattle.rules.proofs.SoundState.{sound-pad}
 use Rattle.rules.proofs.SoundKept.{sound-fresh}
-use Rattle.rules.proofs.Entries.{FitsEvent, FitsEntry}
-use Rattle.rules.proofs.Images.{FitsProgram, FitsSchedule, formed-image, loaded-image}
+use Rattle.rules.proofs.Images.{fresh-fits, image-kept}
 
 -- Answers.
 
@@ -66,33 +61,12 @@ module _ (l : List ℕ) (op : Operation) (lent : List ℕ) where
 
 -- The fresh image.
 
-fresh-sound : sound (pad fresh) ≡ true
-fresh-sound = sound-pad fresh sound-fresh
-
-fresh-back : loaded (image (pad fresh)) ≡ pad fresh
-unfolding whole withinLimits
-fresh-back = loaded-image (pad fresh) refl refl (record {
-  programs = λ p m. subst FitsProgram (sym (in-replicate p noProgram 8 m)) (record { primacy = lit< tt; defaults = lit< tt });
-  entries = λ h m. subst FitsEntry (sym (in-replicate h noEntry 48 m)) (record { event = no-event; begins = lit< tt; held = lit< tt });
-})
-  where
-    no-event : FitsEvent noEvent
-    no-event = record {
-      id = lit< tt;
-      program = lit< tt;
-      controls = lit< tt;
-      created = lit< tt;
-      start = lit< tt;
-      duration = lit< tt;
-      «randomize_start» = lit< tt;
-      «randomize_duration» = lit< tt;
-      «start_draw» = lit< tt;
-      «duration_draw» = lit< tt;
-    }
+fresh-kept : ImageKept (pad fresh)
+fresh-kept = image-kept (pad fresh) (sound-pad fresh sound-fresh) fresh-fits
 
 fresh-face : (l : List ℕ) → length l ≡ imageSize → (imaged (faceFresh l .image) ≡ true) × (loaded (faceFresh l .image) ≡ pad fresh)
-unfolding faceFresh imaged whole
-fresh-face l n = rw (eq-eqb (length l) imageSize n) (rw (formed-image (pad fresh) refl, fresh-back) fresh-sound, fresh-back)
+unfolding faceFresh
+fresh-face l n = rw (eq-eqb (length l) imageSize n) (fresh-kept .accepted, fresh-kept .back)
 
 pub face-clauses : FaceClauses
 face-clauses = record { broken = broken; unchanged = unchanged; same = same; fresh = fresh-face }

@@ -4,6 +4,7 @@ use Prim.Native.Nat.{ℕ, _+_, _^_, _<_, _≤_}
 use mathlib.Core.Bool.{true, and-eq-true-iff}
 use mathlib.Core.List.{List, [], _++_, append-assoc, append-nil}
 use native.Mathlib.Omega.{arith}
+use borrow.Author.Needs.{needs}
 use borrow.Author.Tests.{eqb-true, eq-eqb, leb-true}
 use lib.Dec.{eqb, leb}
 use lib.ListN.{length, drop, length-append, drop-of-length-le}
@@ -11,12 +12,14 @@ use lib.Seq.{drop-drop, drop-at}
 use Rattle.rules.specs.declared.Program.{Program}
 use Rattle.rules.specs.declared.Schedule.{Schedule}
 use Rattle.rules.specs.Lists.{All}
-use Rattle.rules.specs.Records.{lastClock, mostEvents}
+use Rattle.rules.specs.Records.{lastClock, mostEvents, noProgram, noEntry, fresh, pad}
 use Rattle.rules.specs.Bytes.{big, read, flat, many, entryBytes, entryAt}
-use Rattle.rules.specs.Image.{programBytes, programFrom, image, loaded, marked, formed}
-use Rattle.rules.specs.Sound.{whole, withinLimits}
+use Rattle.rules.specs.Image.{programBytes, programFrom, image, loaded, marked, formed, imaged}
+use Rattle.rules.specs.Sound.{whole, withinLimits, sound}
+use Rattle.rules.specs.Clauses.{ImageKept}
+use Rattle.rules.proofs.ListLaws.{in-replicate}
 use Rattle.rules.proofs.Numbers.{Bytes, read-big, read-drop, piece, flat-length, Inverse, many-of-flat, marked-of-flat, flat-of-many}
-use Rattle.rules.proofs.Entries.{FitsEntry, flag-read, flag-small, flag-byte, entry-inverse}
+use Rattle.rules.proofs.Entries.{FitsEntry, none-fits, flag-read, flag-small, flag-byte, entry-inverse}
 
 pub record FitsProgram (p : Program) : Type 0 where
   pub primacy : p .primacy < 256 ^ 1
@@ -50,6 +53,12 @@ program-inverse =
 pub record FitsSchedule (s : Schedule) : Type 0 where
   pub programs : All FitsProgram (s .programs)
   pub entries : All FitsEntry (s .entries)
+
+pub fresh-fits : FitsSchedule (pad fresh)
+fresh-fits = record {
+  programs = λ p m. rw (in-replicate p noProgram 8 m) (search needs);
+  entries = λ h m. rw (in-replicate h noEntry 48 m) none-fits;
+}
 
 module _ (s : Schedule) (w : whole s ≡ true) where
   lengths : (length (s .programs) ≡ 8) × (length (s .entries) ≡ 48)
@@ -97,6 +106,15 @@ module _ (s : Schedule) (w : whole s ≡ true) where
       let programs : many programFrom 6 8 9 (image s) ≡ s .programs = rw (lengths .0) at ps in
       let entries : many entryAt 46 48 57 (image s) ≡ s .entries = rw (lengths .1) at es in
       rw (read-big 8 (s .clock) clock, read-big 1 (s .count) count, programs, entries)
+
+-- so the image of a sound schedule is accepted, and gives the schedule back
+pub image-kept : (s : Schedule) → sound s ≡ true → FitsSchedule s → ImageKept s
+unfolding imaged sound
+image-kept s e f =
+    let t = and-eq-true-iff (whole s) _ .0 e in
+    let n = and-eq-true-iff (withinLimits s) _ .0 (t .1) in
+    let back : loaded (image s) ≡ s = loaded-image s (t .0) (n .0) f in
+    record { accepted = rw (formed-image s (t .0), back) e; back = back }
 
 -- an image is written again from its schedule
 pub image-loaded : (l : List ℕ) → Bytes l → formed l ≡ true → image (loaded l) ≡ l

@@ -6,7 +6,7 @@ use mathlib.Core.Bool.{Bool, true, false, cond}
 use mathlib.Core.List.{List, [], _∷_, _++_, map}
 use native.Mathlib.Omega.{arith}
 use lib.Dec.{ltb}
-use lib.ListN.{length, set, replicate}
+use lib.ListN.{length, take, set, replicate}
 use borrow.Author.Tests.{ltb-true, ltb-false, lt-ltb}
 use Rattle.rules.specs.Lists.{keep, insert, each, pairs, In, Same, All, Pairwise}
 use Rattle.rules.proofs.Tests.{both, each-true}
@@ -229,6 +229,15 @@ module _ {A : Type 0} where
   in-set x a zero (y ∷ ys) (inr m) = inr (inr m)
   in-set x a (suc n) (y ∷ ys) (inl e) = inr (inl e)
   in-set x a (suc n) (y ∷ ys) (inr m) = ⊎-elim (λ e. inl e) (λ k. inr (inr k)) (in-set x a n ys m)
+
+  pub in-append : (x : A) (xs ys : List A) → In x (xs ++ ys) → In x xs ⊎ In x ys
+  in-append x [] ys m = inr m
+  in-append x (y ∷ xs) ys (inl e) = inl (inl e)
+  in-append x (y ∷ xs) ys (inr m) = ⊎-elim (λ k. inl (inr k)) (λ k. inr k) (in-append x xs ys m)
+
+  pub in-take : (x : A) (n : ℕ) (xs : List A) → In x (take n xs) → In x xs
+  in-take x (suc n) (y ∷ xs) (inl e) = inl e
+  in-take x (suc n) (y ∷ xs) (inr m) = inr (in-take x n xs m)
 
   pub in-replicate : (x a : A) (n : ℕ) → In x (replicate n a) → x ≡ a
   in-replicate x a (suc n) (inl e) = e

@@ -1,11 +1,11 @@
 -- Masks, control by control: what is in one that was cut or joined, and when cutting changes nothing.
 use mathlib.Core.Path.{_≡_, refl, sym, _∙_, ap}
-use Prim.Native.Nat.{ℕ, zero, suc, _*_, _/_, _%_, _^_, _<_, min}
+use Prim.Native.Nat.{ℕ, zero, suc, _*_, _/_, _%_, _^_, _<_, _≤_, min}
 use native.Mathlib.Nat.{zero-div, div-one, div-div-eq-div-mul, pow-succ'}
 use native.Mathlib.Omega.{arith}
 use mathlib.Core.Bool.{Bool, true, false, cond, not, _&&_, _||_}
 use lib.Dec.{eqb}
-use lib.Bits.{bitAnd, bitOr, bitXor, and-shr, and-mod, or-shr, or-mod, xor-shr, xor-mod, or-zero-l, and-zero-l, xor-zero-l, xor-zero-r, and-step, and-self}
+use lib.Bits.{bitAnd, bitOr, bitXor, and-shr, and-mod, or-shr, or-mod, xor-shr, xor-mod, or-zero-l, and-zero-l, xor-zero-l, xor-zero-r, and-step, and-self, and-le-r, xor-add-and}
 use lib.Arith.{bin-ind}
 use borrow.Author.Tests.{eqb-true}
 use Rattle.rules.specs.Records.{cut, join, has}
@@ -103,6 +103,11 @@ within-cut a b z k e = go (has b k) refl
     go : (y : Bool) → has b k ≡ y → y ≡ true
     go true q = refl
     go false q = not-has (cut a b) k z (rw (has-cut a b k, e, q))
+
+-- a mask within another is no larger as a number
+pub within-below : (a b : ℕ) → ((k : ℕ) → has a k ≡ true → has b k ≡ true) → a ≤ b
+unfolding cut
+within-below a b f = omega (arith, cut-within a b f, xor-add-and a (bitAnd a b), and-le-r a (bitAnd a b), and-le-r a b)
 
 pub apart-cut : (a b : ℕ) → cut a b ≡ a → (k : ℕ) → has a k ≡ true → has b k ≡ true → ⊥
 apart-cut a b z k e d = both false (sym (rw (e, d) at (has-cut a b k)) ∙ ap (λ m. has m k) z ∙ e) refl

@@ -7,7 +7,8 @@ use Rattle.rules.specs.Refusals.{programChecks}
 use Rattle.rules.specs.Calls.{addProgram, code, programOf, does, checks}
 use Rattle.rules.proofs.CallLaws.{done}
 use Rattle.calls.proofs.Answers.{given}
-use Rattle.calls.proofs.Adding.{arm, stored}
+use Rattle.sound.proofs.Primacies.{arm}
+use Rattle.calls.proofs.Adding.{stored}
 use Rattle.calls.proofs.programs.add_program.Statement.{statement}
 use Rattle.calls.proofs.programs.add_program.Tie as tie
 

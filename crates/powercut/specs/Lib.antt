@@ -1,0 +1,2 @@
+-- What is promised of a power cut.
+pub mod PowerCut

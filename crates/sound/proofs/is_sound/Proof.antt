@@ -1,0 +1,37 @@
+-- Each rule is tested by the function for it. That the arrays have their places is known of every schedule given by value.
+use mathlib.Core.Bool.{and-false}
+use borrow.Author.Needs.{needs}
+use borrow.Author.Tests.{leb-true}
+use lib.Dec.{leb}
+use Rattle.rules.specs.Records.{lastClock, mostEvents}
+use Rattle.rules.specs.Sound.{withinLimits, sound}
+use Rattle.rules.proofs.Tests.{each-true}
+use Rattle.rules.proofs.Lengths.{whole-always}
+use Rattle.sound.proofs.is_sound.Statement.{statement}
+use Rattle.sound.proofs.is_sound.Tie as tie
+
+has-sound-entries-requires : tie.Need-has-sound-entries-requires
+has-sound-entries-requires c κs =
+    let s = c .before .before .before .before .before .args .s in
+    leb-true (s .count) mostEvents (each-true (leb (s .clock) lastClock) (leb (s .count) mostEvents) (c .before .before .if1 .taken) .1)
+
+returns : tie.Need-returns
+unfolding sound withinLimits
+returns c =
+    let start = c .before .before .before .before .before .before in
+    rw (
+      c .has-sound-entries .ensures,
+      c .before .has-unused-rest .ensures,
+      c .before .before .has-sound-programs .ensures,
+      whole-always (start .args .s) _ (start .good .0),
+      c .before .before .before .if1 .taken,
+    )
+
+returns-2 : tie.Need-returns-2
+unfolding sound withinLimits
+returns-2 c = simp (c .if1 .left, and-false)
+
+pub is-sound-spec : {M : Type 1} → statement M
+is-sound-spec =
+    tie.close
+    (tie.spec (λ c κs. search needs) (λ c κs. search needs) has-sound-entries-requires returns returns-2)
