@@ -20,7 +20,7 @@ use Rattle.rules.specs.Bytes.{bytes}
 use Rattle.rules.specs.Sound.{sound}
 use Rattle.rules.specs.Calls.{entryId}
 use Rattle.rules.proofs.ListLaws.{keep-all, asc-map}
-use Rattle.rules.proofs.SoundState.{Sound, ById, sound-view, rules}
+use Rattle.rules.proofs.SoundState.{Sound, ById, sound-view, rules, in-count}
 use Rattle.rules.proofs.Bound.{few-rows}
 use Rattle.rules.proofs.Jump.{onward, Idle}
 use Rattle.calls.specs.declared.columns.Columns.{Columns}
@@ -30,7 +30,6 @@ use Rattle.calls.specs.Settled.{claimants, settled}
 use Rattle.calls.specs.Finished.{lastingOf, finished}
 use Rattle.calls.specs.Advanced.{Advanced}
 use Rattle.calls.proofs.Puts.{no-row, rows-then}
-use Rattle.calls.proofs.Places.{in-count}
 use Rattle.calls.proofs.Undropped.{settledAt, stateIn, quiet-to, moment-then, sound-moment}
 use Rattle.calls.proofs.Moment.{Now, front-is, keep-append, is-end, is-begins, kept-are, codes-are, rows-are, now-next, next-after, next-idle}
 

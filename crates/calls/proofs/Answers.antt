@@ -13,9 +13,8 @@ use Rattle.rules.specs.Sound.{sound}
 use Rattle.rules.specs.Refusals.{firstOf, find}
 use Rattle.rules.specs.Calls.{Call, deliver, nothing, entry, entryId, does, checks, refusal, lentBytes, lentList, call}
 use Rattle.rules.proofs.ListLaws.{insert-length}
-use Rattle.rules.proofs.SoundState.{sound-view}
+use Rattle.rules.proofs.SoundState.{sound-view, in-count}
 use Rattle.rules.proofs.SoundKept.{sound-does}
-use Rattle.calls.proofs.Places.{in-count}
 
 module _ (s : Schedule) (e : sound s ≡ true) where
   pub given : (c : Call) (n : ℕ) → eqb n 0 ≡ false → n ≡ firstOf (checks (view s) c)

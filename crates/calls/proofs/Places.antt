@@ -16,7 +16,7 @@ use Rattle.rules.specs.Records.{mostEvents, noEntry, view}
 use Rattle.rules.specs.Sound.{sound}
 use Rattle.rules.specs.Refusals.{find}
 use Rattle.rules.specs.Calls.{entryId}
-use Rattle.rules.proofs.SoundState.{ById, rules, sound-view}
+use Rattle.rules.proofs.SoundState.{ById, rules, sound-view, in-count}
 use Rattle.calls.specs.declared.events.Place.{Place}
 use Rattle.calls.specs.Found.{Placed, Found}
 
@@ -64,12 +64,8 @@ module _ (i : ℕ) where
       }))
 
 module _ (s : Schedule) (e : sound s ≡ true) where
-  -- as many entries are in use as the count says
-  pub in-count : length (view s .entries) ≡ s .count
-  in-count = length-take-le (s .count) (s .entries) (omega (arith, rules s e .full, rules s e .count))
-
   pub found : {i : ℕ} {p : Place} → Found (view s .entries) i p → find i (view s .entries) ≡ cond (p .held) (some (getD (view s .entries) (p .at) noEntry)) none
   found {i} {p} f = find-at i (view s .entries) (p .at) (p .held) (sound-view s e .ids) f
 
   pub inside : {i : ℕ} {p : Place} → Found (view s .entries) i p → p .held ≡ true → (p .at < s .count) × (s .count ≤ mostEvents)
-  inside f h = (omega (arith, f .held h .0, in-count), rules s e .count)
+  inside f h = (omega (arith, f .held h .0, in-count s e), rules s e .count)

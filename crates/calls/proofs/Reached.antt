@@ -12,8 +12,7 @@ use Rattle.rules.specs.Lists.{In}
 use Rattle.rules.specs.Records.{mostEvents, noEntry, view}
 use Rattle.rules.specs.Sound.{unused, sound}
 use Rattle.rules.proofs.ListLaws.{each-all, replicated}
-use Rattle.rules.proofs.SoundState.{SoundEntry, true-unused, rules, sound-view}
-use Rattle.calls.proofs.Places.{in-count}
+use Rattle.rules.proofs.SoundState.{SoundEntry, true-unused, rules, sound-view, in-count}
 
 -- what stands at a place is in the list
 pub at-in : {A : Type 0} (d : A) (xs : List A) (k : ℕ) → k < length xs → In (getD xs k d) xs

@@ -18,9 +18,9 @@ use Rattle.rules.specs.Refusals.{find}
 use Rattle.rules.specs.Calls.{entryId, mark, withEntries}
 use Rattle.rules.proofs.ListLaws.{insert-length, map-same}
 use Rattle.rules.proofs.Kept.{find-none}
-use Rattle.rules.proofs.SoundState.{ById, sound-view}
+use Rattle.rules.proofs.SoundState.{ById, sound-view, in-count}
 use Rattle.calls.specs.Found.{Placed}
-use Rattle.calls.proofs.Places.{behind, in-count}
+use Rattle.calls.proofs.Places.{behind}
 use Rattle.calls.proofs.Reached.{at-in, rest-unused}
 
 -- an entry goes in at the place of its id

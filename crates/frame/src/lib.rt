@@ -1,7 +1,9 @@
 // Lines of document 01 and the frames that they stand for: a decoder, an encoder, and that each undoes the other.
 ghost use mathlib.Core.Path.{_≡_};
+ghost use Prim.Native.Nat.{_<_};
+ghost use lib.ListN.{length};
 ghost use Rattle.rules.specs.declared.Frame.{Frame};
-ghost use Rattle.rules.specs.declared.Line.the-variants.{Good};
+ghost use Rattle.rules.specs.declared.Line.the-variants.{Good, Bad};
 ghost use Rattle.rules.specs.Frames.{lineOf};
 ghost use Rattle.frame.specs.Decoded.{sizeOf};
 ghost use Rattle.frame.specs.Encoded.{encoded, encodedInto, kindOf};
@@ -76,4 +78,9 @@ pub fn decode_encoded(f: Frame)
 // Frames and image. A line that is decoded is the line of its frame.
 pub fn encode_decoded(line: &[u8])
     ensures { λ _. ⌜ ((f : Frame) → lineOf (now (line .entry)) ≡ Good f → encoded f ≡ now (line .entry)) ⌝ }
+{}
+
+// Frames and image. A line of more than 68 bytes is no frame, so a host need not keep more than 69 bytes of one.
+pub fn long_line(line: &[u8])
+    ensures { λ _. ⌜ (68 < length (now (line .entry)) → lineOf (now (line .entry)) ≡ Bad) ⌝ }
 {}

@@ -15,12 +15,11 @@ use Rattle.rules.specs.Records.{noEntry, view}
 use Rattle.rules.specs.Sound.{sound}
 use Rattle.rules.specs.Refusals.{listChecks}
 use Rattle.rules.specs.Calls.{Outcome, recordOf, list, count, does, checks, call}
-use Rattle.rules.proofs.SoundState.{rules, pad-view}
+use Rattle.rules.proofs.SoundState.{rules, pad-view, in-count}
 use Rattle.rules.proofs.CallLaws.{done}
 use Rattle.listing.specs.Listed.{noRecords, Lists}
 use Rattle.calls.proofs.Answers.{given, broken}
 use Rattle.calls.proofs.Copying.{copied-more, copied-all}
-use Rattle.calls.proofs.Places.{in-count}
 
 module _ (s : Schedule) where
   abbrev pub held : List Record

@@ -246,15 +246,16 @@ module _ (s : Schedule) (e : sound s ≡ true) where
         apart = r6 .1;
       }
 
-  held-count : length hs ≡ s .count
-  held-count = length-take (s .count) (s .entries) ∙ omega (arith, rules .full, rules .count)
+  -- as many entries are in use as the count says
+  pub in-count : length hs ≡ s .count
+  in-count = length-take (s .count) (s .entries) ∙ omega (arith, rules .full, rules .count)
 
   pub sound-view : Sound (view s)
   sound-view = record {
     clock = rules .clock;
     eight = rules .eight;
     programs = λ p m. true-program p (each-all soundProgram (s .programs) (rules .programs) p m);
-    room = omega (arith, held-count, rules .count);
+    room = omega (arith, in-count, rules .count);
     ids = pairs-pairwise ById ascending true-ascending hs (rules .ids);
     entries = λ h m. true-entry (s .programs) (s .clock) h (each-all (soundEntry (s .programs) (s .clock)) hs (rules .entries) h m);
     apart = pairs-pairwise Apart apart true-apart hs (rules .apart);
@@ -262,10 +263,10 @@ module _ (s : Schedule) (e : sound s ≡ true) where
 
   -- a sound schedule is what it says, its unused places zero
   pub pad-view : pad (view s) ≡ s
-  pad-view = λ i. record { clock = s .clock; count = held-count i; programs = s .programs; entries = entries i }
+  pad-view = λ i. record { clock = s .clock; count = in-count i; programs = s .programs; entries = entries i }
     where
       left : length rest ≡ mostEvents - length hs
-      left = length-drop (s .count) (s .entries) ∙ omega (arith, rules .full, held-count)
+      left = length-drop (s .count) (s .entries) ∙ omega (arith, rules .full, in-count)
 
       entries : hs ++ replicate (mostEvents - length hs) noEntry ≡ s .entries
       entries =

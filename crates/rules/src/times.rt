@@ -1,30 +1,14 @@
-// Events by value: ids compared, times worked out, fields checked.
+// Events by value: times worked out, fields checked.
 ghost use mathlib.Core.Path.{_≡_};
 ghost use Prim.Native.Nat.{_+_, _<_, _^_, min, max};
-ghost use lib.Dec.{eqb, ltb};
 ghost use Rattle.rules.specs.Records.{primacyIs, lastClock};
 ghost use Rattle.rules.specs.Period.{lift, plus, drawnStart, effectiveEnd, periodOf, dated};
 ghost use Rattle.rules.specs.Sound.{outside, drawn, outOfRange, malformed, sameEvent};
 use crate::Dated;
 use crate::Event;
-use crate::Id;
 use crate::Period;
 use crate::Primacy;
 use crate::Schedule;
-
-impl Id {
-    pub fn equals(self, other: Id) -> bool
-        ensures { λ r. ⌜ r ≡ eqb (self .value) (other .value) ⌝ }
-    {
-        self.value == other.value
-    }
-
-    pub fn less(self, other: Id) -> bool
-        ensures { λ r. ⌜ r ≡ ltb (self .value) (other .value) ⌝ }
-    {
-        self.value < other.value
-    }
-}
 
 impl Primacy {
     // Records, primacy: the ranges that may be used.

@@ -15,8 +15,8 @@ use Rattle.rules.specs.declared.Entry.{Entry}
 use Rattle.rules.specs.Records.{State, mostEvents, noEntry, view}
 use Rattle.rules.specs.Refusals.{_if_, firstOf, isNone, differs, late, eventChecks}
 use Rattle.rules.specs.Calls.{deliver, checks}
-use Rattle.rules.proofs.SoundState.{rules}
-use Rattle.calls.proofs.Places.{in-count, found, inside}
+use Rattle.rules.proofs.SoundState.{rules, in-count}
+use Rattle.calls.proofs.Places.{found, inside}
 use Rattle.calls.proofs.events.number.Statement.{statement}
 use Rattle.calls.proofs.events.number.Tie as tie
 

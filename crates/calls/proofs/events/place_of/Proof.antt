@@ -8,8 +8,7 @@ use lib.Seq.{getD-take}
 use Rattle.rules.specs.Records.{noEntry}
 use Rattle.rules.specs.Calls.{entryId}
 use Rattle.rules.proofs.Tests.{both}
-use Rattle.rules.proofs.SoundState.{rules}
-use Rattle.calls.proofs.Places.{in-count}
+use Rattle.rules.proofs.SoundState.{rules, in-count}
 use Rattle.calls.proofs.events.place_of.Statement.{statement}
 use Rattle.calls.proofs.events.place_of.Tie as tie
 

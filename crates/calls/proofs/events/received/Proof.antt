@@ -7,8 +7,7 @@ use borrow.Author.Needs.{needs}
 use Rattle.rules.specs.Records.{lastClock}
 use Rattle.rules.specs.Period.{periodOf}
 use Rattle.rules.specs.Calls.{entry}
-use Rattle.rules.proofs.SoundState.{rules}
-use Rattle.calls.proofs.Places.{in-count}
+use Rattle.rules.proofs.SoundState.{rules, in-count}
 use Rattle.calls.proofs.Stored.{put-in}
 use Rattle.calls.proofs.events.received.Statement.{statement}
 use Rattle.calls.proofs.events.received.Tie as tie
