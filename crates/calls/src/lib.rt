@@ -3,6 +3,7 @@
 ghost use mathlib.Core.Path.{_≡_};
 ghost use mathlib.Core.List.{[]};
 ghost use Rattle.rules.specs.Calls.{call, addProgram, deliver, cancel, setClock, ask, list};
+ghost use Rattle.rules.specs.Sound.{sound};
 ghost use Rattle.calls.specs.Answered.{outcomeOf};
 ghost use Rattle.calls.specs.Listed.{noRecords, listedOutcome};
 ghost use Rattle.calls.specs.Lines.{lineOutcome, ranOf, runOutcome};
@@ -45,6 +46,13 @@ pub struct Ran {
     pub answer: Answer,
     pub read: usize,
     pub schedule: Schedule,
+}
+
+// Numbers given, 2. Whether a schedule by value keeps every rule of an image.
+pub fn is_sound(s: Schedule) -> bool
+    ensures { λ r. ⌜ r ≡ sound s ⌝ }
+{
+    sound::is_sound(s)
 }
 
 // Calls, add a program: code 0.

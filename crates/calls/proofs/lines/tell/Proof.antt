@@ -22,7 +22,7 @@ told-requires : tie.Need-told-requires
 told-requires c κs =
     let d = c .before .before .before in
     let a = d .before .before .before .before .before .before .before .before .args in
-    let few = few-counted (a .s) (d .before .before .before .before .before .before .before .before .pre .0) (d .before .before .before .decoded .given .0 .0) room in
+    let few = few-counted (a .s) (d .before .before .before .decoded .given .0 .0) room in
     (search needs, search needs, rw (← ap (λ (o : Outcome). o .value) (d .act-on .ensures)) at few)
 
 returns-2 : tie.Need-returns-2
