@@ -64,9 +64,10 @@ pub(crate) fn finish(a: Answered, image: &mut [u8]) -> u32
     ensures { λ r. ⌜ (r, now (image .exit)) ≡ finished a (now (image .entry)) ⌝ }
 {
     let answer = a.answer;
-    if number_of(answer) == 0 {
-        let schedule = a.schedule;
-        image::write(schedule, image);
+    if number_of(answer) != 0 {
+        return returned(answer);
     }
+    let schedule = a.schedule;
+    image::write(schedule, image);
     returned(answer)
 }

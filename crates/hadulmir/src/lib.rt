@@ -24,14 +24,19 @@ pub fn load(b: &[u8]) -> Opened
     ensures { λ r. ⌜ r ≡ loadOutcome (now (b .entry)) ⌝ }
 {
     let read = image::read(b);
+    // The fresh schedule, if the bytes are no image.
     let schedule = read.schedule;
-    if read.formed {
-        if calls::is_sound(schedule) {
-            return Opened {
-                answer: Answer::Code(0),
-                schedule,
-            };
-        }
+    if !read.formed {
+        return Opened {
+            answer: Answer::Refused(2),
+            schedule,
+        };
+    }
+    if calls::is_sound(schedule) {
+        return Opened {
+            answer: Answer::Code(0),
+            schedule,
+        };
     }
     Opened {
         answer: Answer::Refused(2),

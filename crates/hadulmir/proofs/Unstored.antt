@@ -1,0 +1,1 @@
+-- An operation whose call leaves the schedule as it was: the image is that of its schedule already.
