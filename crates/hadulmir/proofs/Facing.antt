@@ -1,6 +1,6 @@
 -- An operation on bytes that keep an image's length and marks: the call itself looks at the rules, and its outcome is what the face shows.
 use mathlib.Core.Path.{_≡_, refl, sym, ap, _∙_}
-use Prim.Native.Nat.{ℕ}
+use Prim.Native.Nat.{ℕ, _≤_}
 use mathlib.Core.Bool.{Bool, true, false, cond, not}
 use mathlib.Core.List.{List}
 use borrow.Author.Tests.{eqb-true, eqb-false, not-true, not-false}
@@ -8,18 +8,24 @@ use lib.Dec.{eqb}
 use lib.ListN.{length}
 use Rattle.rules.specs.declared.Record.{Record}
 use Rattle.rules.specs.declared.Schedule.{Schedule}
+use Rattle.rules.specs.Records.{fresh, pad}
 use Rattle.rules.specs.Sound.{sound}
 use Rattle.rules.specs.Image.{imageSize, image, loaded, formed, imaged}
-use Rattle.rules.specs.Calls.{Call, Value, Outcome, numberOf, valueOf, lentBytes, call}
+use Rattle.rules.specs.Calls.{Call, Value, Outcome, numberOf, valueOf, counted, lentBytes, call}
 use Rattle.rules.specs.Face.{Operation, asCall, idTooLong, shown, negative, lentAfter, FaceOutcome, face}
 use Rattle.rules.proofs.Tests.{both, each-true}
 use Rattle.rules.proofs.CallLaws.{call-clauses}
 use Rattle.rules.proofs.FaceLaws.{face-clauses}
 use Rattle.image.specs.declared.Loaded.{Loaded}
-use Rattle.image.specs.Exchange.{noImage, readOf}
+use Rattle.image.specs.Exchange.{noImage, readOf, writtenTo}
 use Rattle.calls.specs.declared.Answered.{Answered}
 use Rattle.calls.specs.Answered.{outcomeOf}
+use Rattle.calls.proofs.Said.{call-counted}
 use Rattle.hadulmir.specs.Outcomes.{faceOf, returnedFor, finished}
+
+-- an operation on bytes that are no image, or one that breaks a rule
+pub unimaged : (l : List ℕ) → imaged l ≡ false → (op : Operation) (lent : List ℕ) {r : ℕ} → r ≡ negative 2 → faceOf r l lent ≡ face l op lent
+unimaged l e op lent q = ap (λ (r : ℕ). faceOf r l lent) q ∙ sym (face-clauses .broken l op lent e)
 
 -- What is read.
 
@@ -30,31 +36,30 @@ pub record Formed (l : List ℕ) (b : Loaded) : Type 0 where
   pub schedule : b .schedule ≡ loaded l
 
 module _ (l : List ℕ) {b : Loaded} (e : b ≡ readOf l) where
-  is-formed : b .formed ≡ formed l
+  is-read : (b .formed ≡ formed l) × (b .schedule ≡ cond (formed l) (loaded l) (pad fresh))
   unfolding readOf
-  is-formed = ap (λ (r : Loaded). r .formed) e ∙ by (formed l)
+  is-read = rw e (by (formed l))
     where
-      by : (t : Bool) → cond t (record { formed = true; schedule = loaded l }) noImage .formed ≡ t
-      by true = refl
-      by false = refl
+      by : (t : Bool) → let r = cond t (record { formed = true; schedule = loaded l }) noImage in (r .formed ≡ t) × (r .schedule ≡ cond t (loaded l) (pad fresh))
+      by true = (refl, refl)
+      by false = (refl, refl)
 
   pub formed-as : not (b .formed) ≡ false → Formed l b
-  unfolding readOf formed
+  unfolding formed
   formed-as f =
-      let well = sym is-formed ∙ not-false (b .formed) f in
+      let well = sym (is-read .0) ∙ not-false (b .formed) f in
       record {
         well = well;
         size = eqb-true (length l) imageSize (each-true (eqb (length l) imageSize) _ well .0);
-        schedule = ap (λ (r : Loaded). r .schedule) e ∙ ap (λ (t : Bool). cond t (record { formed = true; schedule = loaded l }) noImage .schedule) well;
+        schedule = rw well at (is-read .1);
       }
 
-  pub unformed : not (b .formed) ≡ true → imaged l ≡ false
+  pub unformed : not (b .formed) ≡ true → (imaged l ≡ false) × (b .schedule ≡ pad fresh)
   unfolding imaged
-  unformed f = rw (sym is-formed ∙ not-true (b .formed) f)
+  unformed f = let bad = sym (is-read .0) ∙ not-true (b .formed) f in (rw bad, rw bad at (is-read .1))
 
-  -- an operation on bytes that are no image
   pub unread : not (b .formed) ≡ true → (op : Operation) (lent : List ℕ) {r : ℕ} → r ≡ negative 2 → faceOf r l lent ≡ face l op lent
-  unread f op lent q = ap (λ (r : ℕ). faceOf r l lent) q ∙ sym (face-clauses .broken l op lent (unformed f))
+  unread f = unimaged l (unformed f .0)
 
 -- What a call gave.
 
@@ -68,7 +73,7 @@ module _ {l : List ℕ} {b : Loaded} (f : Formed l b) where
   sound-is = rw (f .well)
 
   -- what a call says of the schedule that was read, it says of the image's
-  of-image : {o : Outcome} (c : Call) → o ≡ call (b .schedule) c → o ≡ call (loaded l) c
+  pub of-image : {o : Outcome} (c : Call) → o ≡ call (b .schedule) c → o ≡ call (loaded l) c
   of-image c q = q ∙ ap (λ (s : Schedule). call s c) (f .schedule)
 
   -- a call that was accepted found every rule kept
@@ -94,6 +99,24 @@ module _ {l : List ℕ} {b : Loaded} (f : Formed l b) where
         by true false g h = face-clauses .unchanged l op lent (sound-is ∙ g) (λ z. eqb-false (o .number) 0 h (n ∙ z)) ∙ rw h (rw (← n))
         by true true g h =
             face-clauses .same l op lent (sound-is ∙ g) (sym n ∙ eqb-true (o .number) 0 h) (rw (← q) long) ∙ rw h (rw (← q))
+
+  -- whether every rule is kept, as a test of the schedule found it
+  pub is-imaged : {t : Bool} → t ≡ sound (b .schedule) → imaged l ≡ t
+  is-imaged q = sound-is ∙ ap sound (sym (f .schedule)) ∙ sym q
+
+  -- what storing an outcome asks for
+  pub small : (a : Answered) {bytes : List ℕ} {records : List Record} (c : Call) → outcomeOf a bytes records ≡ call (b .schedule) c
+      → (counted (valueOf (a .answer)) ≤ 96) × (length l ≡ imageSize)
+  small a c q = (rw (ap (λ (o : Outcome). counted (o .value)) q) (call-counted (b .schedule) c), f .size)
+
+-- What is written: the image if the length is right.
+pub written-as : (s : Schedule) (l : List ℕ) {t : Bool} {m : List ℕ} → (t, m) ≡ writtenTo s l → (t ≡ eqb (length l) imageSize) × (m ≡ cond t (image s) l)
+unfolding writtenTo
+written-as s l {t} {m} q = by (eqb (length l) imageSize) q
+  where
+    by : (u : Bool) → _≡_ {A = Bool × List ℕ} (t, m) (cond u (true, image s) (false, l)) → (t ≡ u) × (m ≡ cond t (image s) l)
+    by true p = let h = ap (λ (x : Bool × List ℕ). x .0) p in (h, rw h (ap (λ (x : Bool × List ℕ). x .1) p))
+    by false p = let h = ap (λ (x : Bool × List ℕ). x .0) p in (h, rw h (ap (λ (x : Bool × List ℕ). x .1) p))
 
 -- An operation that stores what its call left. Its lent bytes are those that the call was lent.
 pub stored : {l : List ℕ} {b : Loaded} → Formed l b → (op : Operation) (lent : List ℕ) (a : Answered) {after : List ℕ} {records : List Record}
