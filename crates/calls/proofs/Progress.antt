@@ -17,10 +17,10 @@ use Rattle.rules.specs.Calls.{Value, nothing, code, count, holder, default, nob
 use Rattle.rules.specs.Frames.{lineOf, frameCall}
 use Rattle.rules.specs.Printed.{digits, threeText, refusedText, codeText, rowsText, askText, frameText, room, tellFrame, tellLine, tell}
 use Rattle.text.specs.Texts.{mostText}
-use Rattle.calls.specs.Lines.{frameOutcome, endedOf, Run, runs, RunOutcome, ranOf, ranInto, runOutcome}
+use Rattle.calls.specs.Lines.{endedOf, Run, runs, RunOutcome, ranOf, ranInto, runOutcome}
 use Rattle.calls.specs.declared.Ran.{Ran}
 use Rattle.text.proofs.Printing.{decimal-length, three-length, rows-length}
-use Rattle.calls.proofs.Said.{few-counted}
+use Rattle.calls.proofs.Said.{call-counted}
 use Rattle.calls.proofs.Running.{after, sound-told, runs-within}
 
 refused-length : (n : ℕ) → length (refusedText n) ≤ mostText
@@ -46,27 +46,26 @@ ask-length c (holder i) = simp length-append (omega (arith, decimal-length 20 c,
 ask-length c (default p) = simp length-append (omega (arith, decimal-length 20 c, decimal-length 20 p))
 ask-length c nobody = simp length-append (omega (arith, decimal-length 20 c))
 
-frame-length : (s : Schedule) → sound s ≡ true → (f : Frame) → length (frameText (s .clock) f (call s (frameCall f room))) ≤ mostText
-unfolding frameOutcome
-frame-length s e (frame.Event v) = code-length (s .clock) _ (call s (frameCall (frame.Event v) room) .value)
-frame-length s e (frame.Cancel i) = code-length (s .clock) _ (call s (frameCall (frame.Cancel i) room) .value)
-frame-length s e (frame.Clock t) =
+frame-length : (s : Schedule) (f : Frame) → length (frameText (s .clock) f (call s (frameCall f room))) ≤ mostText
+frame-length s (frame.Event v) = code-length (s .clock) _ (call s (frameCall (frame.Event v) room) .value)
+frame-length s (frame.Cancel i) = code-length (s .clock) _ (call s (frameCall (frame.Cancel i) room) .value)
+frame-length s (frame.Clock t) =
     let o = call s (frameCall (frame.Clock t) room) in
-    omega (arith, rows-length (o .bytes) (counted (o .value)) 0, few-counted s e (frame.Clock t) room)
-frame-length s e (frame.Program n p d) = omega arith
-frame-length s e (frame.Ask c) = ask-length c (call s (frameCall (frame.Ask c) room) .value)
+    omega (arith, rows-length (o .bytes) (counted (o .value)) 0, call-counted s (frameCall (frame.Clock t) room))
+frame-length s (frame.Program n p d) = omega arith
+frame-length s (frame.Ask c) = ask-length c (call s (frameCall (frame.Ask c) room) .value)
 
 -- no line's text is longer
-pub tell-length : (s : Schedule) → sound s ≡ true → (l : List ℕ) → length (tell s l .text) ≤ mostText
+pub tell-length : (s : Schedule) (l : List ℕ) → length (tell s l .text) ≤ mostText
 unfolding tell tellFrame
-tell-length s e l = by (lineOf l)
+tell-length s l = by (lineOf l)
   where
     pick : (b : Bool) (x y : List ℕ) → length x ≤ mostText → length y ≤ mostText → length (cond b x y) ≤ mostText
     pick true x y h k = h
     pick false x y h k = k
 
     by : (x : Line) → length (tellLine s x .text) ≤ mostText
-    by (Good f) = let o = call s (frameCall f room) in pick (eqb (o .number) 0) (frameText (s .clock) f o) (refusedText (o .number)) (frame-length s e f) (refused-length (o .number))
+    by (Good f) = let o = call s (frameCall f room) in pick (eqb (o .number) 0) (frameText (s .clock) f o) (refusedText (o .number)) (frame-length s f) (refused-length (o .number))
     by Bad = refused-length 1
 
 -- what a run writes fits
@@ -81,10 +80,10 @@ runs-fits room s (l ∷ ls) = by (leb (length (tell s l .text)) room) refl (runs
     by false e h = omega arith
 
 -- a run that takes nothing has no line
-pub runs-some : (room : ℕ) (s : Schedule) → sound s ≡ true → mostText ≤ room → (ls : List (List ℕ)) → runs room s ls .read ≡ 0 → ls ≡ []
+pub runs-some : (room : ℕ) (s : Schedule) → mostText ≤ room → (ls : List (List ℕ)) → runs room s ls .read ≡ 0 → ls ≡ []
 unfolding runs
-runs-some room s e h [] z = refl
-runs-some room s e h (l ∷ ls) z = absurd (omega (arith, rw (le-leb (length (tell s l .text)) room (omega (arith, tell-length s e l))) at z))
+runs-some room s h [] z = refl
+runs-some room s h (l ∷ ls) z = absurd (omega (arith, rw (le-leb (length (tell s l .text)) room (omega (arith, tell-length s l))) at z))
 
 -- a run leaves a sound schedule
 pub runs-sound : (room : ℕ) (s : Schedule) → sound s ≡ true → (ls : List (List ℕ)) → sound (runs room s ls .state) ≡ true
@@ -113,5 +112,5 @@ went s e r {lines} {out} {bytes} q =
       is-sound = rw (ap (λ (o : RunOutcome). o .state) f) (runs-sound (length out) s e (endedOf lines));
       within = omega (arith, read, runs-within (length out) s lines);
       fits = omega (arith, ap (λ (o : RunOutcome). counted (o .value)) f, runs-fits (length out) s (endedOf lines));
-      some = λ h z. runs-some (length out) s e h (endedOf lines) (sym read ∙ z);
+      some = λ h z. runs-some (length out) s h (endedOf lines) (sym read ∙ z);
     }

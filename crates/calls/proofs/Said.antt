@@ -1,12 +1,13 @@
 -- The text of a line: that of its frame's call, and how many rows there are in it at the most.
 use mathlib.Core.Path.{_≡_, refl, sym, ap, _∙_}
 use Prim.Native.Nat.{ℕ, _+_, _≤_}
-use mathlib.Core.Bool.{Bool, true, false, cond}
+use mathlib.Core.Bool.{Bool, true, false, cond, not}
 use mathlib.Core.List.{List, [], _∷_}
 use mathlib.Core.Option.{Option, none, some}
 use native.Mathlib.Omega.{arith}
 use borrow.Author.Tests.{le-leb}
 use lib.Dec.{eqb}
+use borrow.Author.Tests.{not-false}
 use lib.ListN.{length, take, drop, length-take}
 use lib.Seq.{take-at, length-take-le}
 use Rattle.rules.specs.declared.Entry.{Entry}
@@ -16,10 +17,12 @@ use Rattle.rules.specs.declared.Frame.the-variants as frame
 use Rattle.rules.specs.Records.{idOf, has, view}
 use Rattle.rules.specs.Sound.{sound}
 use Rattle.rules.specs.Refusals.{find}
-use Rattle.rules.specs.Calls.{Value, nobody, Ranked, Call, cancelCode, received, bestDefault, defaultFor, holderIn, answerFor, counted, does, accepts, accepted, refused, call}
+use Rattle.rules.specs.Calls.{Value, nobody, Ranked, Call, addProgram, deliver, cancel, setClock, ask, list, cancelCode, received, bestDefault, defaultFor, holderIn, answerFor, counted, does, refusal, accepts, accepted, refused, call}
 use Rattle.rules.specs.declared.Line.the-variants.{Good, Bad}
 use Rattle.rules.specs.Frames.{lineOf, frameCall}
 use Rattle.rules.specs.Printed.{refusedText, frameText, room, Told, tellFrame, tell}
+use Rattle.rules.proofs.Tests.{first-not}
+use Rattle.rules.proofs.SoundState.{sound-view}
 use Rattle.rules.proofs.Bound.{few-rows}
 use Rattle.calls.specs.Lines.{frameOutcome}
 use Rattle.calls.specs.declared.lines.Telling.{Telling}
@@ -73,14 +76,14 @@ pub tell-text : (s : Schedule) (f : Frame) → let o = frameOutcome s f room in
 unfolding frameOutcome tellFrame
 tell-text s f = rw (frame-text s (s .clock) f room)
 
--- the count of a call that was accepted, or of none
-from-done : (s : Schedule) (c : Call) → counted (does (view s) c .value) ≤ 96 → counted (call s c .value) ≤ 96
-unfolding call
-from-done s c h = by (accepts s c)
+-- the count of a call that was accepted, on a schedule that is sound then, or of none
+from-done : (s : Schedule) (c : Call) → (sound s ≡ true → counted (does (view s) c .value) ≤ 96) → counted (call s c .value) ≤ 96
+unfolding call refusal
+from-done s c h = by (accepts s c) refl
   where
-    by : (t : Bool) → counted (cond t (accepted (does (view s) c)) (refused s c) .value) ≤ 96
-    by true = h
-    by false = omega arith
+    by : (t : Bool) → accepts s c ≡ t → counted (cond t (accepted (does (view s) c)) (refused s c) .value) ≤ 96
+    by true e = h (not-false (sound s) (first-not 2 (not (sound s)) _ refl e .0))
+    by false e = omega arith
 
 none-counted : (o : Option Entry) → counted (received o) ≤ 96
 none-counted none = omega arith
@@ -107,11 +110,16 @@ holder-counted c (x ∷ hs) v h = by (has (x .held) c) (holder-counted c hs v h)
     by true g = omega arith
     by false g = g
 
--- there are at most 96 rows
-pub few-counted : (s : Schedule) → sound s ≡ true → (f : Frame) (b : List ℕ) → counted (frameOutcome s f b .value) ≤ 96
-unfolding frameOutcome does answerFor
-few-counted s e (frame.Event v) b = from-done s (frameCall (frame.Event v) b) (none-counted (find (idOf v) (view s .entries)))
-few-counted s e (frame.Cancel i) b = from-done s (frameCall (frame.Cancel i) b) (cancel-counted (find (i .value) (view s .entries)))
-few-counted s e (frame.Clock t) b = from-done s (frameCall (frame.Clock t) b) (few-rows s e t)
-few-counted s e (frame.Program n p d) b = from-done s (frameCall (frame.Program n p d) b) (omega arith)
-few-counted s e (frame.Ask c) b = from-done s (frameCall (frame.Ask c) b) (holder-counted c (view s .entries) _ (default-counted (bestDefault c 0 (s .programs))))
+-- no call counts more than 96: rows are at most 96, held events at most 48
+pub call-counted : (s : Schedule) (c : Call) → counted (call s c .value) ≤ 96
+unfolding does answerFor
+call-counted s (addProgram n p d) = from-done s (addProgram n p d) (λ e. omega arith)
+call-counted s (deliver v) = from-done s (deliver v) (λ e. none-counted (find (idOf v) (view s .entries)))
+call-counted s (cancel i) = from-done s (cancel i) (λ e. cancel-counted (find i (view s .entries)))
+call-counted s (setClock t b) = from-done s (setClock t b) (λ e. few-rows s e t)
+call-counted s (ask c) = from-done s (ask c) (λ e. holder-counted c (view s .entries) _ (default-counted (bestDefault c 0 (s .programs))))
+call-counted s (list r) = from-done s (list r) (λ e. omega (arith, sound-view s e .room))
+
+pub few-counted : (s : Schedule) (f : Frame) (b : List ℕ) → counted (frameOutcome s f b .value) ≤ 96
+unfolding frameOutcome
+few-counted s f b = call-counted s (frameCall f b)

@@ -81,7 +81,7 @@ module _ (s : Schedule) (w : whole s ≡ true) where
   unfolding image big
   at-programs = refl
 
-  at-entries : drop 57 (image s) ≡ flat entryBytes (s .entries) ++ []
+  pub at-entries : drop 57 (image s) ≡ flat entryBytes (s .entries) ++ []
   at-entries =
       sym (drop-drop 48 9 (image s)) ∙ ap (drop 48) at-programs
       ∙ drop-at (flat programBytes (s .programs)) (flat entryBytes (s .entries)) 48 programs-length ∙ sym (append-nil (flat entryBytes (s .entries)))

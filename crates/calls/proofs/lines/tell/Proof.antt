@@ -33,7 +33,7 @@ returns-2 c =
     let good = sym (m .decoded .given .1) ∙ m .before .before .decode .ensures in
     let o = frameOutcome (a .s) f room in
     let put = t .told .ensures o (sym (ap (λ (o : Outcome). o .number) e)) (sym (ap (λ (o : Outcome). o .value) e)) (sym (ap (λ (o : Outcome). o .bytes) e)) in
-    let put′ = rw (eq-eqb _ 1632 (t .before .before .before .rows2 .given), le-leb (counted (o .value)) 96 (few-counted (a .s) (s .pre .0) f room), s .pre .1, tell-text (a .s) f) at put in
+    let put′ = rw (eq-eqb _ 1632 (t .before .before .before .rows2 .given), le-leb (counted (o .value)) 96 (few-counted (a .s) f room), s .pre .1, tell-text (a .s) f) at put in
     says (tellFrame (a .s) f) (tell-good (a .s) (a .line .now) f good) put′ (ap (λ (o : Outcome). o .state) e)
 
 pub tell-spec : {M : Type 1} → statement M

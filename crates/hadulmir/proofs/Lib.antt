@@ -1,0 +1,3 @@
+-- What belongs to no one function.
+pub mod Facing
+pub mod Unstored

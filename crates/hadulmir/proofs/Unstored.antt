@@ -1,0 +1,134 @@
+-- An operation whose call leaves the schedule as it was: an accepted image is that of its schedule, so storing would change nothing.
+use mathlib.Core.Path.{_≡_, refl, sym, ap, _∙_}
+use Prim.Native.Nat.{ℕ, _+_, _*_, _/_, _<_, _≤_}
+use mathlib.Core.Bool.{Bool, true, false, cond, not}
+use mathlib.Core.List.{List, [], _∷_, _++_, append-nil, map}
+use native.Mathlib.Omega.{arith}
+use borrow.Author.Tests.{eqb-true, not-false, lt-ltb, le-ltb}
+use denote.Enum.Declared.{tagOf}
+use types.Run.{OneOf, miss}
+use lib.Dec.{eqb}
+use lib.ListN.{length, take, drop, replicate, length-map, length-replicate, take-append-drop}
+use lib.Seq.{take-at, length-take-le}
+use Rattle.rules.specs.declared.Answer.{Answer}
+use Rattle.rules.specs.declared.Answer.the-variants.{Refused, Code, Count, Holder, Default, Nobody}
+use Rattle.rules.specs.declared.Id.{Id}
+use Rattle.rules.specs.declared.Entry.{Entry}
+use Rattle.rules.specs.declared.Record.{Record}
+use Rattle.rules.specs.declared.Schedule.{Schedule}
+use Rattle.rules.specs.Lists.{over}
+use Rattle.rules.specs.Records.{mostEvents, noEntry, view, pad}
+use Rattle.rules.specs.Sound.{whole, sound}
+use Rattle.rules.specs.Bytes.{big, flat, entryBytes}
+use Rattle.rules.specs.Image.{entrySize, image, loaded}
+use Rattle.rules.specs.Calls.{Call, ask, list, Outcome, count, holder, numberOf, valueOf, recordOf, does, refusal, accepts, accepted, refused, call}
+use Rattle.rules.specs.Face.{Operation, asks, lists, asCall, idTooLong, shown, negative, lentAfter, face}
+use Rattle.rules.proofs.Answer.{the-type}
+use Rattle.rules.proofs.Tests.{each-true, first-not}
+use Rattle.rules.proofs.Numbers.{Bytes, flat-length, flat-append}
+use Rattle.rules.proofs.Entries.{entry-size}
+use Rattle.rules.proofs.Images.{image-loaded, at-entries}
+use Rattle.rules.proofs.SoundState.{rules, pad-view}
+use Rattle.image.specs.declared.Loaded.{Loaded}
+use Rattle.octets.specs.Octets.{putAt}
+use Rattle.octets.proofs.Fits.{put-inside}
+use Rattle.calls.specs.declared.Answered.{Answered}
+use Rattle.calls.specs.Answered.{outcomeOf}
+use Rattle.listing.specs.Listed.{noRecords}
+use Rattle.listing.proofs.Recorded.{held, held-count, lists-short, lists-all}
+use Rattle.hadulmir.specs.Outcomes.{faceOf, returnedFor}
+use Rattle.hadulmir.proofs.Facing.{Formed, faced, accepted-image, of-image, face-is}
+
+module _ {l : List ℕ} {b : Loaded} (f : Formed l b) (bytes : Bytes l) where
+  -- the bytes are the image of what was read
+  is-image : image (b .schedule) ≡ l
+  is-image = ap image (f .schedule) ∙ image-loaded l bytes (f .well)
+
+  -- accepted, and the schedule as it was
+  pub shows : (op : Operation) (lent : List ℕ) {o : Outcome} → o ≡ call (b .schedule) (asCall op lent) → o .number ≡ 0 → o .state ≡ b .schedule
+      → idTooLong op (o .value) (length lent) ≡ false → face l op lent ≡ faceOf (shown (o .value)) l (lentAfter op o lent)
+  shows op lent {o} q z s long =
+      face-is f op lent q long ∙ ap (λ (n : ℕ). cond (eqb n 0) (faceOf (shown (o .value)) (image (o .state)) (lentAfter op o lent)) (faceOf (negative n) l lent)) z
+      ∙ ap (λ (m : List ℕ). faceOf (shown (o .value)) m (lentAfter op o lent)) (ap image s ∙ is-image)
+
+-- Ask for a control.
+
+ask-leaves : (s : Schedule) (c : ℕ) → call s (ask c) .state ≡ s
+unfolding call refusal does
+ask-leaves s c = by (accepts s (ask c)) refl
+  where
+    by : (t : Bool) → accepts s (ask c) ≡ t → cond t (accepted (does (view s) (ask c))) (refused s (ask c)) .state ≡ s
+    by true h = pad-view s (not-false (sound s) (first-not 2 (not (sound s)) _ refl h .0))
+    by false h = refl
+
+-- an answer that names no holder has no id to be written
+no-id : (a : Answer) → OneOf (0 ∷ 1 ∷ 2 ∷ 4 ∷ 5 ∷ []) (tagOf the-type a) → (c : ℕ) (s : Schedule) (lent : List ℕ)
+    → (idTooLong (asks c) (valueOf a) (length lent) ≡ false) × (lentAfter (asks c) (outcomeOf (record { answer = a; schedule = s }) [] []) lent ≡ lent)
+no-id (Refused n) k c s lent = (refl, refl)
+no-id (Code n) k c s lent = (refl, refl)
+no-id (Count n) k c s lent = (refl, refl)
+no-id (Holder i) k c s lent = absurd (miss (0 ∷ 1 ∷ 2 ∷ 4 ∷ 5 ∷ []) 3 tt k)
+no-id (Default p) k c s lent = (refl, refl)
+no-id Nobody k c s lent = (refl, refl)
+
+module _ {l : List ℕ} {b : Loaded} (f : Formed l b) (bytes : Bytes l) (c : ℕ) (lent : List ℕ) (a : Answered) (q : outcomeOf a [] [] ≡ call (b .schedule) (ask c)) where
+  leaves : a .schedule ≡ b .schedule
+  leaves = ap (λ (o : Outcome). o .state) q ∙ ask-leaves (b .schedule) c
+
+  pub asked-other : OneOf (0 ∷ 1 ∷ 2 ∷ 4 ∷ 5 ∷ []) (tagOf the-type (a .answer)) → {r : ℕ} → r ≡ returnedFor (a .answer) → faceOf r l lent ≡ face l (asks c) lent
+  unfolding returnedFor
+  asked-other k p = ap (λ (r : ℕ). faceOf r l lent) p ∙ by (no-id (a .answer) k c (a .schedule) lent) (eqb (numberOf (a .answer)) 0) refl
+    where
+      by : (idTooLong (asks c) (valueOf (a .answer)) (length lent) ≡ false) × (lentAfter (asks c) (outcomeOf a [] []) lent ≡ lent) → (t : Bool) → eqb (numberOf (a .answer)) 0 ≡ t → faceOf (cond t (shown (valueOf (a .answer))) (negative (numberOf (a .answer)))) l lent ≡ face l (asks c) lent
+      by z true h = sym (shows f bytes (asks c) lent q (eqb-true (numberOf (a .answer)) 0 h) leaves (z .0) ∙ ap (faceOf (shown (valueOf (a .answer))) l) (z .1))
+      by z false h = sym (face-is f (asks c) lent q (z .0) ∙ rw h)
+
+-- a holder, by what the call left
+module _ {l : List ℕ} {b : Loaded} (f : Formed l b) (c : ℕ) (lent : List ℕ) (a : Answered) (q : outcomeOf a [] [] ≡ call (b .schedule) (ask c)) {i : Id} (e : a .answer ≡ Holder i) where
+  named : record { number = 0; value = holder (i .value); state = a .schedule; bytes = []; records = [] } ≡ call (b .schedule) (ask c)
+  named = ap (λ (x : Answer). outcomeOf (record { answer = x; schedule = a .schedule }) [] []) (sym e) ∙ q
+
+  pub asked-long : length lent < 8 → {r : ℕ} → r ≡ negative 13 → faceOf r l lent ≡ face l (asks c) lent
+  unfolding face
+  asked-long h p = rw (p, accepted-image f (ask c) named refl, ← of-image f (ask c) named, lt-ltb (length lent) 8 h)
+
+  pub asked-holder : Bytes l → 8 ≤ length lent → {m : List ℕ} → m ≡ putAt 8 0 (i .value) lent → faceOf 1 l m ≡ face l (asks c) lent
+  asked-holder bytes h p =
+      ap (faceOf 1 l) (p ∙ put-inside 8 0 lent (i .value) h)
+      ∙ sym (shows f bytes (asks c) lent named refl (ap (λ (o : Outcome). o .state) named ∙ ask-leaves (b .schedule) c) (le-ltb (length lent) 8 h))
+
+-- List.
+
+flat-records : (hs : List Entry) → flat (λ (r : Record). entryBytes (r .entry)) (map recordOf hs) ≡ flat entryBytes hs
+unfolding flat
+flat-records [] = refl
+flat-records (h ∷ hs) = ap (_++_ (entryBytes h)) (flat-records hs)
+
+-- the held events stand in an image from byte 57 on
+held-bytes : (s : Schedule) → sound s ≡ true → take (46 * s .count) (drop 57 (image s)) ≡ flat entryBytes (view s .entries)
+unfolding sound
+held-bytes s e =
+    let hs = view s .entries in
+    let rest = drop (s .count) (s .entries) in
+    let size = flat-length entryBytes 46 entry-size hs ∙ ap (_*_ 46) (length-take-le (s .count) (s .entries) (omega (arith, rules s e .full, rules s e .count))) in
+    let all = ap (flat entryBytes) (sym (take-append-drop (s .count) (s .entries))) ∙ flat-append entryBytes hs rest in
+    ap (take (46 * s .count)) (at-entries s (each-true (whole s) _ e .0) ∙ append-nil (flat entryBytes (s .entries)) ∙ all)
+    ∙ take-at (flat entryBytes hs) (flat entryBytes rest) (46 * s .count) size
+
+module _ {l : List ℕ} {b : Loaded} (f : Formed l b) (lent : List ℕ) (e : sound (b .schedule) ≡ true) where
+  pub listed-short : length lent / 46 < b .schedule .count → {r : ℕ} → r ≡ negative 13 → faceOf r l lent ≡ face l lists lent
+  listed-short h p =
+      ap (λ (r : ℕ). faceOf r l lent) p
+      ∙ sym (face-is f lists lent (lists-short (b .schedule) e (length lent / 46) h .leaves _ (length-replicate (length lent / 46) (recordOf noEntry))) refl)
+
+  pub listed-all : Bytes l → b .schedule .count ≤ length lent / 46 → {m : List ℕ} → m ≡ over (take (46 * b .schedule .count) (drop 57 l)) lent
+      → faceOf (b .schedule .count) l m ≡ face l lists lent
+  listed-all bytes h p =
+      let s = b .schedule in
+      let k = length lent / 46 in
+      let old = replicate k (recordOf noEntry) in
+      let q = lists-all s e k h .leaves old (length-replicate k (recordOf noEntry)) in
+      let front : (r : List Record) → take (s .count) (over (held s) r) ≡ held s = λ r. take-at (held s) (drop (length (held s)) r) (s .count) (held-count s e) in
+      let written = ap (λ (r : List Record). flat (λ (r : Record). entryBytes (r .entry)) (take (s .count) (over r old))) (front noRecords) ∙ ap (flat (λ (r : Record). entryBytes (r .entry))) (front old) ∙ flat-records (view s .entries) in
+      let copied = ap (λ (i : List ℕ). take (46 * s .count) (drop 57 i)) (sym (is-image f bytes)) ∙ held-bytes s e in
+      ap (faceOf (s .count) l) (p ∙ ap (λ (x : List ℕ). over x lent) (copied ∙ sym written)) ∙ sym (shows f bytes lists lent q refl refl refl)

@@ -1,0 +1,88 @@
+-- Loaded and looked at: 2, 13, or the bytes of the held events, which stand in the image.
+use mathlib.Core.Path.{_≡_, sym, ap, _∙_}
+use Prim.Native.Nat.{_-_, _*_, _≤_}
+use mathlib.Core.Bool.{true}
+use native.Mathlib.Omega.{arith}
+use borrow.Author.Needs.{needs}
+use borrow.Author.Tests.{not-true, not-false}
+use lib.ListN.{length, drop, length-take, length-drop}
+use lib.Seq.{take-take}
+use Rattle.rules.specs.Lists.{over}
+use Rattle.rules.specs.Sound.{sound}
+use Rattle.rules.proofs.SoundState.{rules}
+use Rattle.hadulmir.proofs.Facing.{Formed, formed-as, is-imaged, unread, unimaged}
+use Rattle.hadulmir.proofs.Unstored.{listed-short, listed-all}
+use Rattle.hadulmir.proofs.hadulmir_list.Statement.{statement}
+use Rattle.hadulmir.proofs.hadulmir_list.Tie as tie
+
+-- what is known once the rules were looked at
+known : (d : tie.After-is-sound) → Formed (d .before .before .before .before .before .before .before .args .image .now) (d .before .before .before .before .read .result)
+known d = formed-as _ (d .before .before .before .before .read .ensures) (d .before .before .if1 .left)
+
+-- and kept
+kept : (d : tie.Else2) → sound (d .before .before .before .before .before .read .result .schedule) ≡ true
+kept d = sym (d .before .is-sound .ensures) ∙ not-false _ (d .if2 .left)
+
+returns : tie.Need-returns
+returns c =
+    let r = c .before .before .before in
+    let a = r .before .before .before .args in
+    unread (a .image .now) (r .read .ensures) (c .before .if1 .taken) _ (a .records .now) (c .negative .ensures)
+
+returns-2 : tie.Need-returns-2
+returns-2 c =
+    let d = c .before .before in
+    unimaged _ (is-imaged (known d) (d .is-sound .ensures) ∙ not-true _ (c .before .if2 .taken)) _ _ (c .negative2 .ensures)
+
+returns-3 : tie.Need-returns-3
+returns-3 c =
+    let d = c .before .before in
+    listed-short (known (d .before)) _ (kept d) (c .before .if3 .taken) (c .negative3 .ensures)
+
+sub-copy : tie.Need-sub-copy
+sub-copy c = omega (arith, known (c .before .before .before) .size)
+
+part-copy-start : tie.Need-part-copy-start
+part-copy-start c = omega (arith, known (c .before .before .before) .size)
+
+copy-requires : tie.Need-copy-requires
+copy-requires c κs =
+    let d = c .before .before .before in
+    let few = rules _ (kept d) .count in
+    let size = known (d .before) .size in
+    (omega (arith, c .before .before .if3 .left), simp (length-take, length-drop) (omega arith))
+
+cast-result : tie.Need-cast-result
+cast-result c = omega (arith, rules _ (kept (c .before .before .before .before .before .before)) .count)
+
+returns-4 : tie.Need-returns-4
+returns-4 c =
+    let d = c .before .before .before .before .before .before in
+    let r = d .before .before .before .before .before in
+    let a = r .before .before .before .args in
+    let few = rules _ (kept d) .count in
+    let size = known (d .before) .size in
+    let part = take-take (46 * r .read .result .schedule .count) (length (a .image .now) - 57) (drop 57 (a .image .now)) (omega arith) in
+    listed-all (known (d .before)) (a .records .now) (kept d) (λ i. omega (arith, r .before .before .shared-slice-known .given i)) (c .before .before .before .before .before .if3 .left)
+    (c .before .before .copy .ensures ∙ ap (λ x. over x (a .records .now)) part)
+
+pub hadulmir-list-spec : {M : Type 1} → statement M
+hadulmir-list-spec =
+    tie.close
+    (tie.spec
+    (λ c κs. search needs)
+    (λ c κs. search needs)
+    returns
+    (λ c κs. search needs)
+    (λ c κs. search needs)
+    returns-2
+    (λ c κs. search needs)
+    returns-3
+    sub-copy
+    part-copy-start
+    (λ c. search needs)
+    (λ c. search needs)
+    copy-requires
+    cast-result
+    (λ c. search needs)
+    returns-4)

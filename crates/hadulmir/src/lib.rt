@@ -1,0 +1,193 @@
+// The C face: every operation on an image as bytes. It loads the image, makes the call by value and stores what the call left; it answers, and leaves the
+// image, as that call does. A number that is returned is an answer, or the two's complement of a refusal's negative; a refused operation leaves every byte.
+ghost use mathlib.Core.Path.{_≡_};
+ghost use mathlib.Core.List.{[]};
+ghost use Rattle.rules.specs.Face.{addsProgram, delivers, cancels, setsClock, asks, lists, face, faceFresh};
+ghost use Rattle.hadulmir.specs.Outcomes.{loadOutcome, storeOutcome, faceOf, eventOf};
+
+mod answers;
+mod copying;
+
+use rules::Answer;
+use rules::Event;
+use rules::Id;
+use rules::Schedule;
+
+// What loading returns.
+pub struct Opened {
+    pub answer: Answer,
+    pub schedule: Schedule,
+}
+
+// Frames and image. The schedule of an image: code 0, or 2 and the fresh schedule.
+pub fn load(b: &[u8]) -> Opened
+    ensures { λ r. ⌜ r ≡ loadOutcome (now (b .entry)) ⌝ }
+{
+    let read = image::read(b);
+    // The fresh schedule, if the bytes are no image.
+    let schedule = read.schedule;
+    if !read.formed {
+        return Opened {
+            answer: Answer::Refused(2),
+            schedule,
+        };
+    }
+    if sound::is_sound(schedule) {
+        return Opened {
+            answer: Answer::Code(0),
+            schedule,
+        };
+    }
+    Opened {
+        answer: Answer::Refused(2),
+        schedule: Schedule::fresh(),
+    }
+}
+
+// Frames and image. The image of a schedule into a buffer of its length: code 0, or 2 and the buffer as it came.
+pub fn store(s: Schedule, out: &mut [u8]) -> Answer
+    ensures { λ r. ⌜ (r, now (out .exit)) ≡ storeOutcome s (now (out .entry)) ⌝ }
+{
+    if sound::is_sound(s) {
+        if image::write(s, out) {
+            return Answer::Code(0);
+        }
+    }
+    Answer::Refused(2)
+}
+
+// The fresh image, into a buffer of its length.
+#[no_mangle]
+pub extern "C" fn hadulmir_fresh(image: &mut [u8]) -> u32
+    ensures { λ r. ⌜ faceOf r (now (image .exit)) [] ≡ faceFresh (now (image .entry)) ⌝ }
+{
+    if image::write(Schedule::fresh(), image) {
+        return 0;
+    }
+    answers::negative(2)
+}
+
+// Calls, add a program.
+#[no_mangle]
+pub extern "C" fn hadulmir_add_program(
+    image: &mut [u8],
+    number: u8,
+    primacy: u8,
+    defaults: u32,
+) -> u32
+    ensures { λ r. ⌜ faceOf r (now (image .exit)) [] ≡ face (now (image .entry)) (addsProgram number primacy defaults) [] ⌝ }
+{
+    let read = image::read(image);
+    if !read.formed {
+        return answers::negative(2);
+    }
+    let s = read.schedule;
+    answers::finish(calls::add_program(s, number, primacy, defaults), image)
+}
+
+// Calls, deliver an event.
+#[no_mangle]
+pub extern "C" fn hadulmir_deliver(
+    image: &mut [u8],
+    id: u64,
+    program: u8,
+    controls: u32,
+    created: u32,
+    start: u32,
+    duration: u32,
+    randomize_start: u16,
+    randomize_duration: u16,
+    start_draw: u16,
+    duration_draw: u16,
+) -> u32
+    ensures { λ r. ⌜ faceOf r (now (image .exit)) [] ≡ face (now (image .entry))
+        (delivers (eventOf id program controls created start duration «randomize_start» «randomize_duration» «start_draw» «duration_draw»)) [] ⌝ }
+{
+    let read = image::read(image);
+    if !read.formed {
+        return answers::negative(2);
+    }
+    let s = read.schedule;
+    let e = Event {
+        id: Id { value: id },
+        program,
+        controls,
+        created,
+        start,
+        duration,
+        randomize_start,
+        randomize_duration,
+        start_draw,
+        duration_draw,
+    };
+    answers::finish(calls::deliver(s, e), image)
+}
+
+// Calls, cancel.
+#[no_mangle]
+pub extern "C" fn hadulmir_cancel(image: &mut [u8], id: u64) -> u32
+    ensures { λ r. ⌜ faceOf r (now (image .exit)) [] ≡ face (now (image .entry)) (cancels id) [] ⌝ }
+{
+    let read = image::read(image);
+    if !read.formed {
+        return answers::negative(2);
+    }
+    let s = read.schedule;
+    answers::finish(calls::cancel(s, Id { value: id }), image)
+}
+
+// Calls, set the clock. The rows go over the front of `rows`.
+#[no_mangle]
+pub extern "C" fn hadulmir_set_clock(image: &mut [u8], reading: u64, rows: &mut [u8]) -> u32
+    ensures { λ r. ⌜ faceOf r (now (image .exit)) (now (rows .exit)) ≡ face (now (image .entry)) (setsClock reading) (now (rows .entry)) ⌝ }
+{
+    let read = image::read(image);
+    if !read.formed {
+        return answers::negative(2);
+    }
+    let s = read.schedule;
+    answers::finish(calls::set_clock(s, reading, rows), image)
+}
+
+// Calls, ask for a control. The id of a holder goes over the front of `id`. An accepted image is that of its schedule, so nothing is stored.
+#[no_mangle]
+pub extern "C" fn hadulmir_ask(image: &[u8], control: u8, id: &mut [u8]) -> u32
+    ensures { λ r. ⌜ faceOf r (now (image .exit)) (now (id .exit)) ≡ face (now (image .entry)) (asks control) (now (id .entry)) ⌝ }
+{
+    let read = image::read(image);
+    if !read.formed {
+        return answers::negative(2);
+    }
+    let s = read.schedule;
+    let a = calls::ask(s, control);
+    let answer = a.answer;
+    let Answer::Holder(holder) = answer else {
+        return answers::returned(answer);
+    };
+    if id.len() < 8 {
+        return answers::negative(13);
+    }
+    octets::put(id, 0, 8, holder.value);
+    1
+}
+
+// Calls, list. The 46 bytes of each held event go over the front of `records`: they stand in an accepted image from byte 57 on.
+#[no_mangle]
+pub extern "C" fn hadulmir_list(image: &[u8], records: &mut [u8]) -> u32
+    ensures { λ r. ⌜ faceOf r (now (image .exit)) (now (records .exit)) ≡ face (now (image .entry)) lists (now (records .entry)) ⌝ }
+{
+    let read = image::read(image);
+    if !read.formed {
+        return answers::negative(2);
+    }
+    let s = read.schedule;
+    if !sound::is_sound(s) {
+        return answers::negative(2);
+    }
+    let n = s.count;
+    if records.len() / 46 < n {
+        return answers::negative(13);
+    }
+    copying::copy(records, &image[57..], 46 * n);
+    n as u32
+}
