@@ -13,7 +13,7 @@ use Rattle.rules.specs.Sound.{sound}
 use Rattle.rules.specs.Image.{imageSize, image, loaded, formed, imaged}
 use Rattle.rules.specs.Calls.{Call, Value, Outcome, numberOf, valueOf, counted, lentBytes, call}
 use Rattle.rules.specs.Face.{Operation, asCall, idTooLong, shown, negative, lentAfter, FaceOutcome, face}
-use Rattle.rules.proofs.Tests.{both, each-true}
+use Rattle.rules.proofs.Tests.{each-true}
 use Rattle.rules.proofs.CallLaws.{call-clauses}
 use Rattle.rules.proofs.FaceLaws.{face-clauses}
 use Rattle.image.specs.declared.Loaded.{Loaded}
