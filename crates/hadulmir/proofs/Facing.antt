@@ -13,7 +13,7 @@ use Rattle.rules.specs.Sound.{sound}
 use Rattle.rules.specs.Image.{imageSize, image, loaded, formed, imaged}
 use Rattle.rules.specs.Calls.{Call, Value, Outcome, numberOf, valueOf, counted, lentBytes, call}
 use Rattle.rules.specs.Face.{Operation, asCall, idTooLong, shown, negative, lentAfter, FaceOutcome, face}
-use Rattle.rules.proofs.Tests.{both, each-true}
+use Rattle.rules.proofs.Tests.{each-true}
 use Rattle.rules.proofs.CallLaws.{call-clauses}
 use Rattle.rules.proofs.FaceLaws.{face-clauses}
 use Rattle.image.specs.declared.Loaded.{Loaded}
@@ -58,6 +58,7 @@ module _ (l : List ℕ) {b : Loaded} (e : b ≡ readOf l) where
   unfolding imaged
   unformed f = let bad = sym (is-read .0) ∙ not-true (b .formed) f in (rw bad, rw bad at (is-read .1))
 
+  -- the same, as the read found it
   pub unread : not (b .formed) ≡ true → (op : Operation) (lent : List ℕ) {r : ℕ} → r ≡ negative 2 → faceOf r l lent ≡ face l op lent
   unread f = unimaged l (unformed f .0)
 
@@ -85,6 +86,7 @@ module _ {l : List ℕ} {b : Loaded} (f : Formed l b) where
       by false g = absurd (eqb-false 2 0 refl (sym (ap (λ (o : Outcome). o .number) (of-image c q) ∙ call-clauses .broken (loaded l) c g) ∙ z))
 
   module _ (op : Operation) (lent : List ℕ) where
+    -- the face is what it shows of the outcome by value
     pub face-is : {o : Outcome} → o ≡ call (b .schedule) (asCall op lent) → idTooLong op (o .value) (length lent) ≡ false → face l op lent ≡ faced l op lent o
     face-is {o} p long = by (sound (loaded l)) (eqb (o .number) 0) refl refl
       where

@@ -1,6 +1,6 @@
 -- An operation whose call leaves the schedule as it was: an accepted image is that of its schedule, so storing would change nothing.
 use mathlib.Core.Path.{_≡_, refl, sym, ap, _∙_}
-use Prim.Native.Nat.{ℕ, _+_, _*_, _/_, _<_, _≤_}
+use Prim.Native.Nat.{ℕ, _*_, _/_, _<_, _≤_}
 use mathlib.Core.Bool.{Bool, true, false, cond, not}
 use mathlib.Core.List.{List, [], _∷_, _++_, append-nil, map}
 use native.Mathlib.Omega.{arith}
@@ -8,7 +8,7 @@ use borrow.Author.Tests.{eqb-true, not-false, lt-ltb, le-ltb}
 use denote.Enum.Declared.{tagOf}
 use types.Run.{OneOf, miss}
 use lib.Dec.{eqb}
-use lib.ListN.{length, take, drop, replicate, length-map, length-replicate, take-append-drop}
+use lib.ListN.{length, take, drop, replicate, length-replicate, take-append-drop}
 use lib.Seq.{take-at, length-take-le}
 use Rattle.rules.specs.declared.Answer.{Answer}
 use Rattle.rules.specs.declared.Answer.the-variants.{Refused, Code, Count, Holder, Default, Nobody}
@@ -17,11 +17,11 @@ use Rattle.rules.specs.declared.Entry.{Entry}
 use Rattle.rules.specs.declared.Record.{Record}
 use Rattle.rules.specs.declared.Schedule.{Schedule}
 use Rattle.rules.specs.Lists.{over}
-use Rattle.rules.specs.Records.{mostEvents, noEntry, view, pad}
+use Rattle.rules.specs.Records.{noEntry, view}
 use Rattle.rules.specs.Sound.{whole, sound}
-use Rattle.rules.specs.Bytes.{big, flat, entryBytes}
-use Rattle.rules.specs.Image.{entrySize, image, loaded}
-use Rattle.rules.specs.Calls.{Call, ask, list, Outcome, count, holder, numberOf, valueOf, recordOf, does, refusal, accepts, accepted, refused, call}
+use Rattle.rules.specs.Bytes.{flat, entryBytes}
+use Rattle.rules.specs.Image.{image}
+use Rattle.rules.specs.Calls.{ask, Outcome, count, holder, numberOf, valueOf, recordOf, does, refusal, accepts, accepted, refused, call}
 use Rattle.rules.specs.Face.{Operation, asks, lists, asCall, idTooLong, shown, negative, lentAfter, face}
 use Rattle.rules.proofs.Answer.{the-type}
 use Rattle.rules.proofs.Tests.{each-true, first-not}
@@ -37,7 +37,7 @@ use Rattle.calls.specs.Answered.{outcomeOf}
 use Rattle.listing.specs.Listed.{noRecords}
 use Rattle.listing.proofs.Recorded.{held, held-count, lists-short, lists-all}
 use Rattle.hadulmir.specs.Outcomes.{faceOf, returnedFor}
-use Rattle.hadulmir.proofs.Facing.{Formed, faced, accepted-image, of-image, face-is}
+use Rattle.hadulmir.proofs.Facing.{Formed, accepted-image, of-image, face-is}
 
 module _ {l : List ℕ} {b : Loaded} (f : Formed l b) (bytes : Bytes l) where
   -- the bytes are the image of what was read

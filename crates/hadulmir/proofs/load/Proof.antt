@@ -1,5 +1,4 @@
 -- The tests are those of `imaged`, in its order.
-use mathlib.Core.Path.{sym, ap, _∙_}
 use borrow.Author.Needs.{needs}
 use Rattle.hadulmir.specs.Outcomes.{loadOutcome}
 use Rattle.hadulmir.proofs.Facing.{formed-as, unformed, is-imaged}

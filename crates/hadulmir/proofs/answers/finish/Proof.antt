@@ -1,5 +1,5 @@
 -- A refused call is not stored; an accepted one is, since the buffer has an image's length.
-use mathlib.Core.Path.{sym, ap₂, _∙_}
+use mathlib.Core.Path.{_∙_}
 use borrow.Author.Needs.{needs}
 use borrow.Author.Tests.{eq-eqb, ne-eqb}
 use Rattle.hadulmir.specs.Outcomes.{finished}

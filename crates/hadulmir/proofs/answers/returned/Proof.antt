@@ -1,7 +1,6 @@
 -- A refusal has a number, any other answer 0.
-use mathlib.Core.Path.{sym, _∙_}
 use borrow.Author.Needs.{needs}
-use borrow.Author.Tests.{eq-eqb, ne-eqb}
+use borrow.Author.Tests.{ne-eqb}
 use Rattle.hadulmir.specs.Outcomes.{returnedFor}
 use Rattle.hadulmir.proofs.answers.returned.Statement.{statement}
 use Rattle.hadulmir.proofs.answers.returned.Tie as tie
