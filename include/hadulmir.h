@@ -1,0 +1,391 @@
+/*
+ * Hadulmir: the event schedule of an IEEE 2030.5 client.
+ *
+ * A host hands over programs, events, cancellations and clock readings as it received them. The part says which event holds which
+ * control at each second, settles overlaps by primacy, falls back to a program's default and gives the response codes to be posted.
+ * XML, transport, metering and the values of controls stay with the host.
+ *
+ * The whole state is an image: 2,265 plain bytes that the host owns. The part allocates nothing, keeps nothing between calls, calls
+ * nothing of the host and returns from every call. An image has no pointer in it: it may be copied, stored, sent to another device and
+ * taken up there.
+ *
+ * HOW IT IS USED
+ *
+ *     uint8_t image[HADULMIR_IMAGE_SIZE], rows[HADULMIR_ROWS_SIZE];
+ *     int32_t n, i;
+ *
+ *     hadulmir_fresh(image, sizeof image);
+ *     hadulmir_add_program(image, sizeof image, 0, 1, 0x1);
+ *     ...
+ *     n = hadulmir_set_clock(image, sizeof image, now, rows, sizeof rows);
+ *     for (i = 0; i < n; i++)
+ *         post(hadulmir_row_at(rows, (size_t)i));
+ *
+ * RULES FOR THE HOST
+ *
+ * Every value of every number and every content of every buffer is allowed; what does not fit the rules is refused by number. What no
+ * call can check is this:
+ *
+ *   1. Each pointer points to as many bytes as the length beside it says. It is not null, even at length 0.
+ *   2. The buffers of one call do not overlap.
+ *   3. One call at a time uses an image and a lent buffer. Different images may be used at the same time.
+ *   4. An image is whole between calls. A copy that is to outlive a loss of power is made between calls, never during one.
+ *   5. Rows are given once: the next clock call starts behind them. A host that must not lose any stores them with the image.
+ *
+ * HADULMIR_STACK_SIZE bytes of stack do for every call; tests/c.sh measures it. Of the C library the archive needs memcpy and memset alone.
+ *
+ * ANSWERS AND REFUSALS
+ *
+ * Every function returns an int32_t. An answer is 0 or more. A refusal is the negative of its number, and a refused call has changed no
+ * byte: not the image, not a lent buffer. An accepted call writes the front of a lent buffer only; the bytes behind stay as they were.
+ *
+ * TIMES AND MASKS
+ *
+ * All times are whole seconds. Bit c of a mask is control c, 0 to 31. In buffers each number stands most significant byte first.
+ */
+#ifndef HADULMIR_H
+#define HADULMIR_H
+
+#include <stddef.h>
+#include <stdint.h>
+
+#ifdef __cplusplus
+extern "C" {
+#endif
+
+/* Bytes of an image. */
+#define HADULMIR_IMAGE_SIZE 2265
+
+/* Bytes of a response row. */
+#define HADULMIR_ROW_SIZE 17
+
+/* Rows that one clock call gives at most: two for each held event. */
+#define HADULMIR_ROWS_AT_MOST 96
+
+/* Bytes of a row buffer that is long enough for every clock call. */
+#define HADULMIR_ROWS_SIZE (HADULMIR_ROWS_AT_MOST * HADULMIR_ROW_SIZE)
+
+/* Bytes of a listed record, and of an event entry of the image. */
+#define HADULMIR_RECORD_SIZE 46
+
+/* Events that a schedule holds at most. */
+#define HADULMIR_EVENTS_AT_MOST 48
+
+/* Bytes of a record buffer that is long enough for every listing. */
+#define HADULMIR_RECORDS_SIZE (HADULMIR_EVENTS_AT_MOST * HADULMIR_RECORD_SIZE)
+
+/* Bytes of an id in a buffer. */
+#define HADULMIR_ID_SIZE 8
+
+/* Programs have the numbers 0 to 7, controls the numbers 0 to 31. */
+#define HADULMIR_PROGRAMS 8
+#define HADULMIR_CONTROLS 32
+
+/* The last reading that a clock call accepts. */
+#define HADULMIR_LAST_CLOCK UINT64_C(9000000000)
+
+/* Bytes of stack that do for every call on x86-64. Measured (29,016 for a clock call, the dearest) and rounded up, not proved. */
+#define HADULMIR_STACK_SIZE 32768
+
+/*
+ * The refusals, as they are returned, in the order in which a call checks them. A call that several apply to returns the first. Number 1 is
+ * that of a line of text which is no frame; no function of this header reads lines, so none returns it.
+ */
+enum hadulmir_refusal {
+    /* The image is not 2,265 bytes long, or breaks a rule of images (see THE IMAGE below). */
+    HADULMIR_BAD_IMAGE = -2,
+    /* The program number is above 7. */
+    HADULMIR_PROGRAM_TOO_LARGE = -3,
+    /* The program was added before. */
+    HADULMIR_PROGRAM_ADDED = -4,
+    /* The primacy is reserved: 3 to 64, or 192 to 255. */
+    HADULMIR_PRIMACY_RESERVED = -5,
+    /* The event's program was not added. */
+    HADULMIR_PROGRAM_UNKNOWN = -6,
+    /*
+     * The event is invalid: its controls are 0, its start is below 3,600, its duration is 0, a randomisation is outside -3,600 to 3,600, a
+     * draw does not lie between 0 and its randomisation, or duration + duration draw is below 1. The host posts response code 253.
+     */
+    HADULMIR_EVENT_INVALID = -7,
+    /* The id is held, with some field different. */
+    HADULMIR_EVENT_DIFFERS = -8,
+    /*
+     * The id is not held and the event comes too late: start + duration is at or before the clock, or its effective end is at or before the
+     * second after the clock. The host posts response code 254.
+     */
+    HADULMIR_EVENT_EXPIRED = -9,
+    /* The id is not held and 48 events are. */
+    HADULMIR_FULL = -10,
+    /* The id to be cancelled is not held. */
+    HADULMIR_NOT_HELD = -11,
+    /* The reading is before the clock, or above 9,000,000,000. */
+    HADULMIR_BAD_CLOCK = -12,
+    /* The lent buffer is shorter than what the call has to write. */
+    HADULMIR_TOO_SHORT = -13,
+    /* The control is above 31. */
+    HADULMIR_CONTROL_TOO_LARGE = -14
+};
+
+/* Response codes of IEEE 2030.5 that a host posts. 2, 3 and 7 come in rows, 1 and 6 are answers, 253 and 254 go with refusals. */
+enum hadulmir_response {
+    HADULMIR_RECEIVED = 1,
+    HADULMIR_STARTED = 2,
+    HADULMIR_COMPLETED = 3,
+    HADULMIR_CANCELLED = 6,
+    HADULMIR_SUPERSEDED = 7,
+    HADULMIR_REJECTED_INVALID = 253,
+    HADULMIR_REJECTED_EXPIRED = 254
+};
+
+/* What hadulmir_ask answers. Program p is answered as HADULMIR_DEFAULT + p. */
+enum hadulmir_asked {
+    HADULMIR_NOBODY = 0,
+    HADULMIR_EVENT = 1,
+    HADULMIR_DEFAULT = 2
+};
+
+/*
+ * THE IMAGE
+ *
+ *        0   clock                                8 bytes
+ *        8   count of held events                 1
+ *        9   program 0 to program 7               6 each:  added (0 or 1) 1, primacy 1, defaults 4
+ *       57   event entries, 48 of them           46 each:  as a record below, the held ones first
+ *
+ * A record, which is also an event entry:
+ *
+ *        0   id                                   8
+ *        8   program number                       1
+ *        9   controls                             4
+ *       13   creation time                        4
+ *       17   start                                4
+ *       21   duration                             4
+ *       25   randomizeStart                       2, two's complement
+ *       27   randomizeDuration                    2, two's complement
+ *       29   start draw                           2, two's complement
+ *       31   duration draw                        2, two's complement
+ *       33   effective start                      8
+ *       41   held mask                            4
+ *       45   cancelled (0 or 1)                   1
+ *
+ * A row:
+ *
+ *        0   time                                 8
+ *        8   id                                   8
+ *       16   response code                        1
+ *
+ * Drawn start is start + start draw. Effective end is drawn start + duration + duration draw. Effective start is the later of drawn start
+ * and the second after the clock at which the event was first accepted.
+ *
+ * An image is accepted if it keeps every one of these rules. Else each function but hadulmir_fresh returns -2.
+ *   - The clock is at most 9,000,000,000, the count at most 48. Added and cancelled are 0 or 1.
+ *   - A program that is not added has primacy and defaults 0. An added one has a primacy that is not reserved.
+ *   - The entries from the count on are zero. The ids of the others ascend, no two are equal.
+ *   - Each held event is of an added program and has fields that refusal 7 does not apply to.
+ *   - Its effective start is not before its drawn start and is before its effective end. Its effective end is after the clock.
+ *   - Its held mask lies within its controls, and is 0 if the clock is before the effective start or the event is cancelled.
+ *   - No two held masks share a bit.
+ */
+
+/*
+ * Makes the fresh image: clock 0, no program, no event, which is 2,265 zero bytes. What the buffer held before does not count.
+ * Answers 0 and writes all 2,265 bytes.
+ * Refuses with -2 if image_len is not 2,265.
+ */
+int32_t hadulmir_fresh(uint8_t *image, size_t image_len);
+
+/*
+ * Adds a program. `primacy`: less is better; 0, 1, 2 and 65 to 191 may be used. `defaults` is the mask of controls that it has a default
+ * for, and may be 0. A program cannot be changed or taken away; to do so a host starts again from a fresh image.
+ * Answers 0 and writes the image.
+ * Refuses with -2, -3, -4, -5.
+ */
+int32_t hadulmir_add_program(uint8_t *image, size_t image_len, uint8_t number, uint8_t primacy, uint32_t defaults);
+
+/*
+ * Delivers an event. `id` is the host's own handle for it. The last four numbers are signed, in two's complement: give them through
+ * hadulmir_signed. The host draws once for an event, at random, between 0 and the randomisation, both included, and gives the same draws
+ * whenever it delivers that event again.
+ * Answers 1 if the event is new and writes the image; the host posts code 1. Answers 0 if it is held with every field equal, cancelled or not,
+ * and leaves the image as it was. An event is held until the clock reaches its effective end. After that its id is free.
+ * Refuses with -2, -3, -6, -7, -8, -9, -10. The host posts 253 for -7 and 254 for -9; hadulmir_response_for says so.
+ */
+int32_t hadulmir_deliver(uint8_t *image, size_t image_len, uint64_t id, uint8_t program, uint32_t controls, uint32_t created,
+                         uint32_t start, uint32_t duration, uint16_t randomize_start, uint16_t randomize_duration,
+                         uint16_t start_draw, uint16_t duration_draw);
+
+/*
+ * Cancels a held event. It holds nothing any more, as a question or a listing after the call shows; what it held at the present second still
+ * counts for that second. It gives no more rows, and stays listed until its effective end.
+ * Answers 6 and writes the image; the host posts code 6. Answers 0 if it was cancelled before, and leaves the image as it was.
+ * Refuses with -2, -11.
+ */
+int32_t hadulmir_cancel(uint8_t *image, size_t image_len, uint64_t id);
+
+/*
+ * Sets the clock to `reading` and writes the response rows of all moments after the old reading up to the new one, one behind the other from
+ * the front of `rows`. Rows go by time, at one time by code in the order 3, 7, 2, then by id. A jump over many moments gives the same rows as
+ * a call for every second. The same reading again is allowed and gives none.
+ * Answers the count of the rows, 0 to 96, and writes the image and 17 bytes of `rows` for each row; the bytes behind stay as they were.
+ * Refuses with -2, -12, and with -13 if rows_len is below 17 times the count. HADULMIR_ROWS_SIZE bytes always suffice. After -13 the clock
+ * stands where it stood: a host calls again with a longer buffer, or with an earlier reading first.
+ */
+int32_t hadulmir_set_clock(uint8_t *image, size_t image_len, uint64_t reading, uint8_t *rows, size_t rows_len);
+
+/*
+ * Asks what holds for a control now. The image stays as it was.
+ * Answers HADULMIR_EVENT (1) if an event holds it, with its id in the first 8 bytes of `id` (hadulmir_id_at reads it); the bytes behind stay
+ * as they were. Else answers HADULMIR_DEFAULT + p (2 to 9) for the program p of best primacy whose defaults have the control, the smaller
+ * number if two are equal; else HADULMIR_NOBODY (0). With these two answers `id` stays as it was, and may be of any length.
+ * Refuses with -2, -14, and with -13 if an event holds the control and id_len is below 8.
+ */
+int32_t hadulmir_ask(uint8_t *image, size_t image_len, uint8_t control, uint8_t *id, size_t id_len);
+
+/*
+ * Lists the held events by ascending id, one record of 46 bytes behind the other from the front of `records`. The image stays as it was.
+ * Answers their count, 0 to 48, and writes 46 bytes for each; the bytes behind stay as they were. records_len need be no multiple of 46.
+ * Refuses with -2, and with -13 if records_len is below 46 times the count. HADULMIR_RECORDS_SIZE bytes always suffice.
+ */
+int32_t hadulmir_list(uint8_t *image, size_t image_len, uint8_t *records, size_t records_len);
+
+/* HELPERS. They are compiled into the host and call nothing. */
+
+/* Whether a returned number is a refusal. */
+static inline int hadulmir_is_refusal(int32_t returned)
+{
+    return returned < 0;
+}
+
+/*
+ * The response code that a host posts after hadulmir_deliver or hadulmir_cancel returned `returned`; 0 if there is nothing to post.
+ * The returned numbers of the other functions are counts or answers of another kind and are not to be given to it.
+ */
+static inline uint8_t hadulmir_response_for(int32_t returned)
+{
+    switch (returned) {
+    case HADULMIR_RECEIVED:
+        return HADULMIR_RECEIVED;
+    case HADULMIR_CANCELLED:
+        return HADULMIR_CANCELLED;
+    case HADULMIR_EVENT_INVALID:
+        return HADULMIR_REJECTED_INVALID;
+    case HADULMIR_EVENT_EXPIRED:
+        return HADULMIR_REJECTED_EXPIRED;
+    default:
+        return 0;
+    }
+}
+
+/*
+ * A signed number as the 16 bits that hadulmir_deliver takes. One that does not fit into 16 bits becomes -32,768, which is outside every
+ * range, so that the delivery is refused with -7; cut off to 16 bits it could have become a number that passes.
+ */
+static inline uint16_t hadulmir_signed(int32_t value)
+{
+    if (value < -32768 || value > 32767)
+        return 0x8000u;
+    return (uint16_t)((uint32_t)value & 0xFFFFu);
+}
+
+/* The number of `size` bytes, at most 8, most significant first. */
+static inline uint64_t hadulmir_number_at(const uint8_t *bytes, size_t size)
+{
+    uint64_t number = 0;
+    size_t i;
+
+    for (i = 0; i < size; i++)
+        number = (number << 8) | bytes[i];
+    return number;
+}
+
+/* The signed number of 2 bytes. */
+static inline int16_t hadulmir_signed_at(const uint8_t *bytes)
+{
+    int32_t number = (int32_t)hadulmir_number_at(bytes, 2);
+
+    return (int16_t)(number < 32768 ? number : number - 65536);
+}
+
+/* The id that hadulmir_ask wrote. Only where it answered HADULMIR_EVENT. */
+static inline uint64_t hadulmir_id_at(const uint8_t *id)
+{
+    return hadulmir_number_at(id, HADULMIR_ID_SIZE);
+}
+
+/* The clock of an image. A host that took up an image goes on from there. */
+static inline uint64_t hadulmir_clock_of(const uint8_t *image)
+{
+    return hadulmir_number_at(image, 8);
+}
+
+/* A response row: at `time` the event `id` gives the response code `code`, which is 2, 3 or 7. */
+struct hadulmir_row {
+    uint64_t time;
+    uint64_t id;
+    uint8_t code;
+};
+
+/* Row i of a buffer that hadulmir_set_clock wrote; i is below the count that it answered. */
+static inline struct hadulmir_row hadulmir_row_at(const uint8_t *rows, size_t i)
+{
+    const uint8_t *at = rows + i * HADULMIR_ROW_SIZE;
+    struct hadulmir_row row;
+
+    row.time = hadulmir_number_at(at, 8);
+    row.id = hadulmir_number_at(at + 8, 8);
+    row.code = at[16];
+    return row;
+}
+
+/* A held event: its fields as they were delivered, the signed ones as signed numbers; its effective start; what it holds now. */
+struct hadulmir_record {
+    uint64_t id;
+    uint8_t program;
+    uint32_t controls;
+    uint32_t created;
+    uint32_t start;
+    uint32_t duration;
+    int16_t randomize_start;
+    int16_t randomize_duration;
+    int16_t start_draw;
+    int16_t duration_draw;
+    uint64_t effective_start;
+    uint32_t held;
+    uint8_t cancelled;
+};
+
+/* Record i of a buffer that hadulmir_list wrote; i is below the count that it answered. */
+static inline struct hadulmir_record hadulmir_record_at(const uint8_t *records, size_t i)
+{
+    const uint8_t *at = records + i * HADULMIR_RECORD_SIZE;
+    struct hadulmir_record record;
+
+    record.id = hadulmir_number_at(at, 8);
+    record.program = at[8];
+    record.controls = (uint32_t)hadulmir_number_at(at + 9, 4);
+    record.created = (uint32_t)hadulmir_number_at(at + 13, 4);
+    record.start = (uint32_t)hadulmir_number_at(at + 17, 4);
+    record.duration = (uint32_t)hadulmir_number_at(at + 21, 4);
+    record.randomize_start = hadulmir_signed_at(at + 25);
+    record.randomize_duration = hadulmir_signed_at(at + 27);
+    record.start_draw = hadulmir_signed_at(at + 29);
+    record.duration_draw = hadulmir_signed_at(at + 31);
+    record.effective_start = hadulmir_number_at(at + 33, 8);
+    record.held = (uint32_t)hadulmir_number_at(at + 41, 4);
+    record.cancelled = at[45];
+    return record;
+}
+
+/* The second at which an event ends, and from which on it is no longer held. */
+static inline uint64_t hadulmir_effective_end(const struct hadulmir_record *record)
+{
+    int64_t drawn_start = (int64_t)record->start + record->start_draw;
+
+    return (uint64_t)(drawn_start + (int64_t)record->duration + record->duration_draw);
+}
+
+#ifdef __cplusplus
+}
+#endif
+
+#endif

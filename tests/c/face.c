@@ -1,0 +1,1588 @@
+/*
+ * Tests of the C face. Every call goes through `call`, which lends buffers of the exact length between guard bytes and looks at all that a
+ * call must not touch: the guard bytes always, the bytes behind what was written, the image of a question or a listing, and everything
+ * after a refusal. With -DGUARD=0 a buffer is a heap block of its exact length, so that valgrind sees a byte read or written outside it.
+ */
+#include <inttypes.h>
+#include <stdio.h>
+#include <stdlib.h>
+#include <string.h>
+
+#include "hadulmir.h"
+
+#ifndef GUARD
+#define GUARD 64
+#endif
+
+#define IMAGE HADULMIR_IMAGE_SIZE
+#define EVENTS_FROM 57
+#define LENT_AT_MOST 4096
+#define TEXT_AT_MOST 8192
+
+/* COUNTING */
+
+static unsigned passed, failed;
+
+static void check(int ok, const char *what, int line)
+{
+    if (ok) {
+        passed++;
+        return;
+    }
+    failed++;
+    if (failed <= 40)
+        printf("face.c:%d: failed: %s\n", line, what);
+}
+
+#define CHECK(ok) check((ok), #ok, __LINE__)
+
+/* BUFFERS */
+
+struct lent {
+    uint8_t *block;
+    uint8_t *at;
+    size_t len;
+};
+
+static const uint8_t guard_byte = 0xA5;
+
+static uint8_t pattern(size_t i)
+{
+    return (uint8_t)(i * 7 + 0x5A);
+}
+
+/* A buffer of a pattern. Its address goes through all remainders by 8, since no call may ask for an alignment. */
+static struct lent lend(size_t len)
+{
+    static size_t shift;
+    struct lent b;
+    size_t before, i;
+
+    shift = (shift + 1) % 8;
+    before = GUARD + shift;
+    if (before + len == 0)
+        before = 1; /* one past a block of one byte: not null, and no byte of it may be touched */
+    b.block = malloc(before + len + GUARD);
+    if (b.block == NULL)
+        abort();
+    memset(b.block, guard_byte, before + len + GUARD);
+    b.at = b.block + before;
+    b.len = len;
+    for (i = 0; i < len; i++)
+        b.at[i] = pattern(i);
+    return b;
+}
+
+static int guards_whole(const struct lent *b)
+{
+    const uint8_t *p;
+
+    for (p = b->block; p < b->at; p++)
+        if (*p != guard_byte)
+            return 0;
+    for (p = b->at + b->len; p < b->at + b->len + GUARD; p++)
+        if (*p != guard_byte)
+            return 0;
+    return 1;
+}
+
+static int pattern_from(const struct lent *b, size_t from)
+{
+    size_t i;
+
+    for (i = from; i < b->len; i++)
+        if (b->at[i] != pattern(i))
+            return 0;
+    return 1;
+}
+
+/* CALLS */
+
+enum kind { ADD, DELIVER, CANCEL, CLOCK, ASK, LIST };
+
+/* A call with all that is given to it but the image. `room` is the length of the lent buffer. */
+struct op {
+    enum kind kind;
+    uint64_t id; /* of DELIVER and CANCEL; the reading of CLOCK */
+    uint8_t number; /* of a program or a control */
+    uint8_t primacy;
+    uint32_t controls; /* also the defaults of ADD */
+    uint32_t created, start, duration;
+    int32_t randomize_start, randomize_duration, start_draw, duration_draw;
+    size_t room;
+};
+
+static struct op blank_op(enum kind kind)
+{
+    struct op op;
+
+    memset(&op, 0, sizeof op);
+    op.kind = kind;
+    return op;
+}
+
+static struct op add(uint8_t number, uint8_t primacy, uint32_t defaults)
+{
+    struct op op = blank_op(ADD);
+
+    op.number = number;
+    op.primacy = primacy;
+    op.controls = defaults;
+    return op;
+}
+
+static struct op event(uint64_t id, uint8_t program, uint32_t controls, uint32_t created, uint32_t start, uint32_t duration)
+{
+    struct op op = blank_op(DELIVER);
+
+    op.id = id;
+    op.number = program;
+    op.controls = controls;
+    op.created = created;
+    op.start = start;
+    op.duration = duration;
+    return op;
+}
+
+static struct op drawn(struct op op, int32_t randomize_start, int32_t start_draw, int32_t randomize_duration, int32_t duration_draw)
+{
+    op.randomize_start = randomize_start;
+    op.start_draw = start_draw;
+    op.randomize_duration = randomize_duration;
+    op.duration_draw = duration_draw;
+    return op;
+}
+
+static struct op cancel(uint64_t id)
+{
+    struct op op = blank_op(CANCEL);
+
+    op.id = id;
+    return op;
+}
+
+static struct op set_clock(uint64_t reading, size_t room)
+{
+    struct op op = blank_op(CLOCK);
+
+    op.id = reading;
+    op.room = room;
+    return op;
+}
+
+static struct op ask(uint8_t control, size_t room)
+{
+    struct op op = blank_op(ASK);
+
+    op.number = control;
+    op.room = room;
+    return op;
+}
+
+static struct op list(size_t room)
+{
+    struct op op = blank_op(LIST);
+
+    op.room = room;
+    return op;
+}
+
+static int32_t act(uint8_t *image, size_t len, const struct op *op, uint8_t *lent)
+{
+    switch (op->kind) {
+    case ADD:
+        return hadulmir_add_program(image, len, op->number, op->primacy, op->controls);
+    case DELIVER:
+        return hadulmir_deliver(image, len, op->id, op->number, op->controls, op->created, op->start, op->duration,
+                                hadulmir_signed(op->randomize_start), hadulmir_signed(op->randomize_duration),
+                                hadulmir_signed(op->start_draw), hadulmir_signed(op->duration_draw));
+    case CANCEL:
+        return hadulmir_cancel(image, len, op->id);
+    case CLOCK:
+        return hadulmir_set_clock(image, len, op->id, lent, op->room);
+    case ASK:
+        return hadulmir_ask(image, len, op->number, lent, op->room);
+    default:
+        return hadulmir_list(image, len, lent, op->room);
+    }
+}
+
+/* Bytes of the lent buffer that an answer says were written. */
+static size_t written(enum kind kind, int32_t answer)
+{
+    switch (kind) {
+    case CLOCK:
+        return (size_t)answer * HADULMIR_ROW_SIZE;
+    case ASK:
+        return answer == HADULMIR_EVENT ? HADULMIR_ID_SIZE : 0;
+    case LIST:
+        return (size_t)answer * HADULMIR_RECORD_SIZE;
+    default:
+        return 0;
+    }
+}
+
+/* The lent bytes as the last call left them. */
+static uint8_t lent_bytes[LENT_AT_MOST];
+
+/* Makes a call on `len` bytes of an image, which get what the call left. */
+static int32_t call_at_length(uint8_t *image, size_t len, struct op op)
+{
+    struct lent own = lend(len), lent = lend(op.room);
+    int32_t returned;
+    int untouched;
+
+    memcpy(own.at, image, len);
+    returned = act(own.at, len, &op, lent.at);
+    untouched = guards_whole(&own) && guards_whole(&lent);
+    if (returned < 0)
+        untouched = untouched && memcmp(own.at, image, len) == 0 && pattern_from(&lent, 0);
+    else
+        untouched = untouched && written(op.kind, returned) <= op.room && pattern_from(&lent, written(op.kind, returned));
+    if (op.kind == ASK || op.kind == LIST || ((op.kind == DELIVER || op.kind == CANCEL) && returned == 0))
+        untouched = untouched && memcmp(own.at, image, len) == 0;
+    CHECK(untouched);
+    memcpy(image, own.at, len);
+    memcpy(lent_bytes, lent.at, op.room);
+    free(own.block);
+    free(lent.block);
+    return returned;
+}
+
+static int32_t call(uint8_t *image, struct op op)
+{
+    return call_at_length(image, IMAGE, op);
+}
+
+static void expect_at(uint8_t *image, struct op op, int32_t wanted, int line)
+{
+    int32_t returned = call(image, op);
+
+    if (returned != wanted && failed < 40)
+        printf("face.c:%d: returned %" PRId32 ", expected %" PRId32 "\n", line, returned, wanted);
+    check(returned == wanted, "the returned number", line);
+}
+
+#define EXPECT(image, op, wanted) expect_at((image), (op), (wanted), __LINE__)
+
+/* IMAGES BY HAND, and what is read out of them */
+
+static void put(uint8_t *at, size_t size, uint64_t number)
+{
+    while (size > 0) {
+        size--;
+        at[size] = (uint8_t)(number & 0xFF);
+        number >>= 8;
+    }
+}
+
+static void blank_image(uint8_t *image, uint64_t clock)
+{
+    memset(image, 0, IMAGE);
+    put(image, 8, clock);
+}
+
+static void put_program(uint8_t *image, uint8_t number, uint8_t primacy, uint32_t defaults)
+{
+    uint8_t *at = image + 9 + 6 * number;
+
+    at[0] = 1;
+    at[1] = primacy;
+    put(at + 2, 4, defaults);
+}
+
+static uint8_t *entry_of(uint8_t *image, size_t i)
+{
+    return image + EVENTS_FROM + i * HADULMIR_RECORD_SIZE;
+}
+
+/* Puts an entry behind the last one. */
+static void put_event(uint8_t *image, struct op e, uint64_t effective_start, uint32_t held, uint8_t cancelled)
+{
+    uint8_t *at = entry_of(image, image[8]);
+
+    put(at, 8, e.id);
+    at[8] = e.number;
+    put(at + 9, 4, e.controls);
+    put(at + 13, 4, e.created);
+    put(at + 17, 4, e.start);
+    put(at + 21, 4, e.duration);
+    put(at + 25, 2, hadulmir_signed(e.randomize_start));
+    put(at + 27, 2, hadulmir_signed(e.randomize_duration));
+    put(at + 29, 2, hadulmir_signed(e.start_draw));
+    put(at + 31, 2, hadulmir_signed(e.duration_draw));
+    put(at + 33, 8, effective_start);
+    put(at + 41, 4, held);
+    at[45] = cancelled;
+    image[8]++;
+}
+
+static int same(const uint8_t *a, const uint8_t *b)
+{
+    return memcmp(a, b, IMAGE) == 0;
+}
+
+static void fresh(uint8_t *image)
+{
+    CHECK(hadulmir_fresh(image, IMAGE) == 0);
+}
+
+/* Appends to a text whose parts are separated by "; ". */
+static void append(char *text, const char *part)
+{
+    if (text[0] != '\0')
+        strcat(text, "; ");
+    strcat(text, part);
+}
+
+static void rows_text(char *text, int32_t count)
+{
+    char part[64];
+    int32_t i;
+
+    text[0] = '\0';
+    for (i = 0; i < count; i++) {
+        struct hadulmir_row row = hadulmir_row_at(lent_bytes, (size_t)i);
+        snprintf(part, sizeof part, "%" PRIu64 " %" PRIu64 " %u", row.time, row.id, (unsigned)row.code);
+        append(text, part);
+    }
+}
+
+static size_t parts_of(const char *text)
+{
+    size_t parts = text[0] != '\0';
+
+    for (; *text != '\0'; text++)
+        parts += *text == ';';
+    return parts;
+}
+
+/*
+ * Sets the clock and compares the rows: "time id code; time id code". The buffer is first one byte short, then longer than needed by one
+ * byte, then by more than a row, then exact; the first is refused and the others agree.
+ */
+static void rows_at(uint8_t *image, uint64_t reading, const char *wanted, int line)
+{
+    static char text[TEXT_AT_MOST];
+    static const size_t more[] = {1, 40, 0};
+    uint8_t before[IMAGE], after[IMAGE];
+    size_t need = parts_of(wanted) * HADULMIR_ROW_SIZE;
+    size_t i;
+
+    memcpy(before, image, IMAGE);
+    if (need > 0)
+        expect_at(image, set_clock(reading, need - 1), HADULMIR_TOO_SHORT, line);
+    for (i = 0; i < 3; i++) {
+        memcpy(image, before, IMAGE);
+        expect_at(image, set_clock(reading, need + more[i]), (int32_t)parts_of(wanted), line);
+        rows_text(text, (int32_t)parts_of(wanted));
+        if (strcmp(text, wanted) != 0)
+            printf("face.c:%d: rows %s\n", line, text);
+        check(strcmp(text, wanted) == 0, "the rows", line);
+        check(hadulmir_clock_of(image) == reading, "the clock", line);
+        if (i > 0)
+            check(same(image, after), "one image for every room", line);
+        memcpy(after, image, IMAGE);
+    }
+}
+
+#define ROWS(image, reading, wanted) rows_at((image), (reading), (wanted), __LINE__)
+
+/* Lists and compares: "id start-end held", with " cancelled" behind it. The room is one byte short, longer, and exact, as with rows. */
+static void listed_at(uint8_t *image, const char *wanted, int line)
+{
+    static char text[TEXT_AT_MOST];
+    static const size_t more[] = {1, 45, 46, 100, 0};
+    size_t need = parts_of(wanted) * HADULMIR_RECORD_SIZE;
+    size_t i, j;
+    char part[128];
+
+    if (need > 0)
+        expect_at(image, list(need - 1), HADULMIR_TOO_SHORT, line);
+    for (i = 0; i < 5; i++) {
+        expect_at(image, list(need + more[i]), (int32_t)parts_of(wanted), line);
+        check(memcmp(lent_bytes, image + EVENTS_FROM, need) == 0, "records are the entries of the image", line);
+        text[0] = '\0';
+        for (j = 0; j < parts_of(wanted); j++) {
+            struct hadulmir_record r = hadulmir_record_at(lent_bytes, j);
+            snprintf(part, sizeof part, "%" PRIu64 " %" PRIu64 "-%" PRIu64 " %" PRIX32 "%s", r.id, r.effective_start,
+                     hadulmir_effective_end(&r), r.held, r.cancelled ? " cancelled" : "");
+            append(text, part);
+        }
+        if (strcmp(text, wanted) != 0)
+            printf("face.c:%d: records %s\n", line, text);
+        check(strcmp(text, wanted) == 0, "the records", line);
+    }
+}
+
+#define LISTED(image, wanted) listed_at((image), (wanted), __LINE__)
+
+/* Asks for a control: an event by its id. Its id buffer is too short, longer, and exact. */
+static void holder_at(uint8_t *image, uint8_t control, uint64_t id, int line)
+{
+    size_t room;
+
+    for (room = 0; room < HADULMIR_ID_SIZE; room++)
+        expect_at(image, ask(control, room), HADULMIR_TOO_SHORT, line);
+    for (; room <= 17; room++) {
+        expect_at(image, ask(control, room), HADULMIR_EVENT, line);
+        check(hadulmir_id_at(lent_bytes) == id, "the holder's id", line);
+    }
+}
+
+#define HOLDER(image, control, id) holder_at((image), (control), (id), __LINE__)
+
+/* Asks for a control that no event holds: nothing is written, so every length does. */
+static void no_holder_at(uint8_t *image, uint8_t control, int32_t wanted, int line)
+{
+    size_t room;
+
+    for (room = 0; room <= 9; room++)
+        expect_at(image, ask(control, room), wanted, line);
+}
+
+#define NONE(image, control) no_holder_at((image), (control), HADULMIR_NOBODY, __LINE__)
+#define FALLS_BACK(image, control, program) no_holder_at((image), (control), HADULMIR_DEFAULT + (program), __LINE__)
+
+/* THE FUNCTIONS, ONE BY ONE */
+
+/* An image with program 0 (primacy 1, no defaults) at a clock. */
+static void begin(uint8_t *image, uint64_t clock)
+{
+    fresh(image);
+    EXPECT(image, add(0, 1, 0), 0);
+    EXPECT(image, set_clock(clock, 0), 0);
+}
+
+static void test_fresh(void)
+{
+    static const size_t wrong[] = {0, 1, 46, IMAGE - 1, IMAGE + 1, 2 * IMAGE};
+    uint8_t zero[IMAGE];
+    struct lent b;
+    size_t i;
+
+    memset(zero, 0, IMAGE);
+    b = lend(IMAGE);
+    CHECK(hadulmir_fresh(b.at, IMAGE) == 0);
+    CHECK(same(b.at, zero) && guards_whole(&b));
+    CHECK(hadulmir_fresh(b.at, IMAGE) == 0);
+    CHECK(same(b.at, zero) && guards_whole(&b));
+    free(b.block);
+    for (i = 0; i < sizeof wrong / sizeof wrong[0]; i++) {
+        b = lend(wrong[i]);
+        CHECK(hadulmir_fresh(b.at, wrong[i]) == HADULMIR_BAD_IMAGE);
+        CHECK(pattern_from(&b, 0) && guards_whole(&b));
+        free(b.block);
+    }
+    LISTED(zero, "");
+    ROWS(zero, 0, "");
+    NONE(zero, 0);
+}
+
+static void test_add_program(void)
+{
+    uint8_t image[IMAGE], wanted[IMAGE];
+    unsigned n;
+
+    fresh(image);
+    blank_image(wanted, 0);
+    for (n = 0; n < 8; n++) {
+        EXPECT(image, add((uint8_t)n, (uint8_t)(191 - n), 0x80000001u + n), 0);
+        put_program(wanted, (uint8_t)n, (uint8_t)(191 - n), 0x80000001u + n);
+        CHECK(same(image, wanted));
+    }
+    for (n = 0; n < 8; n++) {
+        EXPECT(image, add((uint8_t)n, (uint8_t)(191 - n), 0x80000001u + n), HADULMIR_PROGRAM_ADDED);
+        EXPECT(image, add((uint8_t)n, 0, 0), HADULMIR_PROGRAM_ADDED);
+        EXPECT(image, add((uint8_t)n, 3, 0), HADULMIR_PROGRAM_ADDED); /* 4 before 5 */
+    }
+    for (n = 8; n < 256; n++) {
+        EXPECT(image, add((uint8_t)n, 0, 0), HADULMIR_PROGRAM_TOO_LARGE);
+        EXPECT(image, add((uint8_t)n, 64, 0), HADULMIR_PROGRAM_TOO_LARGE); /* 3 before 5 */
+    }
+    for (n = 0; n < 256; n++) {
+        fresh(image);
+        EXPECT(image, add(7, (uint8_t)n, 0), n <= 2 || (n >= 65 && n <= 191) ? 0 : HADULMIR_PRIMACY_RESERVED);
+    }
+    fresh(image);
+    EXPECT(image, add(3, 0, 0), 0);
+    blank_image(wanted, 0);
+    put_program(wanted, 3, 0, 0);
+    CHECK(same(image, wanted));
+    EXPECT(image, set_clock(HADULMIR_LAST_CLOCK, 0), 0);
+    EXPECT(image, add(4, 65, 0xFFFFFFFFu), 0);
+    put(wanted, 8, HADULMIR_LAST_CLOCK);
+    put_program(wanted, 4, 65, 0xFFFFFFFFu);
+    CHECK(same(image, wanted));
+}
+
+/* Delivers to a copy, so that the image stays as it is. */
+static void try_at(const uint8_t *image, struct op op, int32_t wanted, int line)
+{
+    uint8_t copy[IMAGE];
+
+    memcpy(copy, image, IMAGE);
+    expect_at(copy, op, wanted, line);
+}
+
+#define TRY(image, op, wanted) try_at((image), (op), (wanted), __LINE__)
+
+static void test_deliver_answers(void)
+{
+    uint8_t image[IMAGE], wanted[IMAGE];
+    struct op first = drawn(event(0x0102030405060708u, 7, 0xA1B2C3D4u, 0x11223344, 0x55667788, 0x99AABBCCu), -3600, -2, 3600, 3);
+    struct op smaller = event(5, 0, 1, 0, 3600, 1);
+    struct op larger = event(UINT64_MAX, 0, 0xFFFFFFFFu, UINT32_MAX, UINT32_MAX, UINT32_MAX);
+
+    fresh(image);
+    EXPECT(image, add(7, 191, 0), 0);
+    EXPECT(image, add(0, 0, 0), 0);
+    EXPECT(image, first, HADULMIR_RECEIVED);
+    blank_image(wanted, 0);
+    put_program(wanted, 7, 191, 0);
+    put_program(wanted, 0, 0, 0);
+    put_event(wanted, first, 0x55667786, 0, 0);
+    CHECK(same(image, wanted));
+
+    /* Entries go by id, whatever the order of arrival. */
+    EXPECT(image, larger, HADULMIR_RECEIVED);
+    EXPECT(image, smaller, HADULMIR_RECEIVED);
+    blank_image(wanted, 0);
+    put_program(wanted, 7, 191, 0);
+    put_program(wanted, 0, 0, 0);
+    put_event(wanted, smaller, 3600, 0, 0);
+    put_event(wanted, first, 0x55667786, 0, 0);
+    put_event(wanted, larger, UINT32_MAX, 0, 0);
+    CHECK(same(image, wanted));
+
+    /* Held already: 0, and no change, also if cancelled or if the end by the duration alone has passed. */
+    EXPECT(image, first, 0);
+    EXPECT(image, smaller, 0);
+    EXPECT(image, larger, 0);
+    EXPECT(image, cancel(larger.id), HADULMIR_CANCELLED);
+    EXPECT(image, larger, 0);
+    begin(image, 4000);
+    EXPECT(image, drawn(event(9, 0, 1, 0, 5000, 600), 0, 0, 100, 100), HADULMIR_RECEIVED);
+    ROWS(image, 5650, "5000 9 2");
+    EXPECT(image, drawn(event(9, 0, 1, 0, 5000, 600), 0, 0, 100, 100), 0);
+    EXPECT(image, drawn(event(8, 0, 1, 0, 5000, 600), 0, 0, 100, 100), HADULMIR_EVENT_EXPIRED);
+
+    /* The id 0 is an id. After its end an id is free, for another event only. */
+    EXPECT(image, event(0, 0, 2, 0, 6000, 60), HADULMIR_RECEIVED);
+    ROWS(image, 6060, "5700 9 3; 6000 0 2; 6060 0 3");
+    LISTED(image, "");
+    EXPECT(image, event(0, 0, 2, 0, 6000, 60), HADULMIR_EVENT_EXPIRED);
+    EXPECT(image, event(0, 0, 2, 0, 7000, 60), HADULMIR_RECEIVED);
+    LISTED(image, "0 7000-7060 0");
+}
+
+static void test_deliver_refusals(void)
+{
+    uint8_t image[IMAGE];
+    const struct op good = event(1, 0, 1, 100, 5000, 600);
+    struct op e;
+    unsigned n;
+
+    begin(image, 4000);
+    TRY(image, good, HADULMIR_RECEIVED);
+
+    /* 3 and 6, in this order and before 7. */
+    for (n = 8; n < 256; n++)
+        TRY(image, event(1, (uint8_t)n, 1, 100, 5000, 600), HADULMIR_PROGRAM_TOO_LARGE);
+    TRY(image, event(1, 8, 0, 100, 0, 0), HADULMIR_PROGRAM_TOO_LARGE);
+    for (n = 1; n < 8; n++) {
+        TRY(image, event(1, (uint8_t)n, 1, 100, 5000, 600), HADULMIR_PROGRAM_UNKNOWN);
+        TRY(image, event(1, (uint8_t)n, 0, 100, 0, 0), HADULMIR_PROGRAM_UNKNOWN);
+    }
+
+    /* 7, each condition on both sides of its edge. */
+    TRY(image, event(1, 0, 0, 100, 5000, 600), HADULMIR_EVENT_INVALID);
+    TRY(image, event(1, 0, 0x80000000u, 100, 5000, 600), HADULMIR_RECEIVED);
+    TRY(image, event(1, 0, 1, 100, 3599, 600), HADULMIR_EVENT_INVALID);
+    TRY(image, event(1, 0, 1, 100, 3600, 600), HADULMIR_RECEIVED);
+    TRY(image, event(1, 0, 1, 100, 5000, 0), HADULMIR_EVENT_INVALID);
+    TRY(image, event(1, 0, 1, 100, 5000, 1), HADULMIR_RECEIVED);
+    TRY(image, drawn(good, 3600, 3600, 0, 0), HADULMIR_RECEIVED);
+    TRY(image, drawn(good, 3601, 0, 0, 0), HADULMIR_EVENT_INVALID);
+    TRY(image, drawn(good, 3600, 3601, 0, 0), HADULMIR_EVENT_INVALID);
+    TRY(image, drawn(good, -3600, -100, 0, 0), HADULMIR_RECEIVED);
+    TRY(image, drawn(good, -3601, 0, 0, 0), HADULMIR_EVENT_INVALID);
+    TRY(image, drawn(good, -3600, -3601, 0, 0), HADULMIR_EVENT_INVALID);
+    TRY(image, drawn(good, 0, 0, 3600, 3600), HADULMIR_RECEIVED);
+    TRY(image, drawn(good, 0, 0, 3601, 0), HADULMIR_EVENT_INVALID);
+    TRY(image, drawn(good, 0, 0, 3600, 3601), HADULMIR_EVENT_INVALID);
+    TRY(image, drawn(good, 0, 0, -3600, -599), HADULMIR_RECEIVED);
+    TRY(image, drawn(good, 0, 0, -3601, 0), HADULMIR_EVENT_INVALID);
+    TRY(image, drawn(good, 0, 0, -3600, -600), HADULMIR_EVENT_INVALID);
+    TRY(image, drawn(good, 0, 1, 0, 0), HADULMIR_EVENT_INVALID);
+    TRY(image, drawn(good, 0, -1, 0, 0), HADULMIR_EVENT_INVALID);
+    TRY(image, drawn(good, 0, 0, 0, 1), HADULMIR_EVENT_INVALID);
+    TRY(image, drawn(good, 0, 0, 0, -1), HADULMIR_EVENT_INVALID);
+    TRY(image, drawn(good, 10, -1, 0, 0), HADULMIR_EVENT_INVALID);
+    TRY(image, drawn(good, -10, 1, 0, 0), HADULMIR_EVENT_INVALID);
+    TRY(image, drawn(good, 10, 11, 0, 0), HADULMIR_EVENT_INVALID);
+    TRY(image, drawn(good, -10, -11, 0, 0), HADULMIR_EVENT_INVALID);
+    TRY(image, drawn(good, 10, 10, -10, -10), HADULMIR_RECEIVED);
+    TRY(image, drawn(good, -32768, 0, 0, 0), HADULMIR_EVENT_INVALID);
+    TRY(image, drawn(good, 32767, 0, 0, 0), HADULMIR_EVENT_INVALID);
+    TRY(image, drawn(good, 0, -32768, 0, 0), HADULMIR_EVENT_INVALID);
+    TRY(image, drawn(good, 0, 0, 0, -32768), HADULMIR_EVENT_INVALID);
+    TRY(image, drawn(good, -65836, 0, 0, 0), HADULMIR_EVENT_INVALID); /* cut off to 16 bits it would have been -300 */
+
+    /* 8, by each field; 7 before 8; 8 before 9. */
+    EXPECT(image, good, HADULMIR_RECEIVED);
+    EXPECT(image, add(1, 1, 0), 0);
+    EXPECT(image, event(1, 1, 1, 100, 5000, 600), HADULMIR_EVENT_DIFFERS);
+    EXPECT(image, event(1, 0, 3, 100, 5000, 600), HADULMIR_EVENT_DIFFERS);
+    EXPECT(image, event(1, 0, 1, 101, 5000, 600), HADULMIR_EVENT_DIFFERS);
+    EXPECT(image, event(1, 0, 1, 100, 5001, 600), HADULMIR_EVENT_DIFFERS);
+    EXPECT(image, event(1, 0, 1, 100, 5000, 601), HADULMIR_EVENT_DIFFERS);
+    EXPECT(image, drawn(good, 1, 0, 0, 0), HADULMIR_EVENT_DIFFERS);
+    EXPECT(image, drawn(good, 0, 0, 1, 0), HADULMIR_EVENT_DIFFERS);
+    EXPECT(image, drawn(good, 0, 0, 0, 1), HADULMIR_EVENT_INVALID);
+    EXPECT(image, drawn(event(2, 0, 2, 0, 5000, 600), 10, 5, 10, 5), HADULMIR_RECEIVED);
+    EXPECT(image, drawn(event(2, 0, 2, 0, 5000, 600), 10, 6, 10, 5), HADULMIR_EVENT_DIFFERS);
+    EXPECT(image, drawn(event(2, 0, 2, 0, 5000, 600), 10, 5, 10, 6), HADULMIR_EVENT_DIFFERS);
+    EXPECT(image, event(1, 0, 1, 100, 3600, 1), HADULMIR_EVENT_DIFFERS);
+    EXPECT(image, event(1, 0, 0, 100, 5000, 600), HADULMIR_EVENT_INVALID);
+
+    /* 9, both reasons. The sum start + duration has more than 32 bits. */
+    begin(image, 5599);
+    TRY(image, good, HADULMIR_EVENT_EXPIRED);
+    TRY(image, drawn(good, 0, 0, 1, 1), HADULMIR_RECEIVED);
+    begin(image, 5600);
+    TRY(image, drawn(good, 0, 0, 100, 100), HADULMIR_EVENT_EXPIRED);
+    begin(image, 5299);
+    TRY(image, drawn(good, -300, -300, 0, 0), HADULMIR_EVENT_EXPIRED);
+    begin(image, 5298);
+    TRY(image, drawn(good, -300, -300, 0, 0), HADULMIR_RECEIVED);
+    begin(image, 0);
+    TRY(image, drawn(event(1, 0, 1, 0, 3600, 1), -3600, -3600, 0, 0), HADULMIR_EVENT_EXPIRED);
+    TRY(image, drawn(event(1, 0, 1, 0, 3600, 2), -3600, -3600, 0, 0), HADULMIR_RECEIVED);
+    begin(image, UINT64_C(8589934588));
+    TRY(image, event(1, 0, 1, 0, UINT32_MAX, UINT32_MAX), HADULMIR_RECEIVED);
+    begin(image, UINT64_C(8589934589));
+    TRY(image, event(1, 0, 1, 0, UINT32_MAX, UINT32_MAX), HADULMIR_EVENT_EXPIRED);
+    begin(image, HADULMIR_LAST_CLOCK);
+    e = drawn(event(1, 0, 1, 0, UINT32_MAX, UINT32_MAX), 3600, 3600, 3600, 3600);
+    TRY(image, e, HADULMIR_EVENT_EXPIRED);
+    begin(image, UINT64_C(8589934589));
+    EXPECT(image, e, HADULMIR_RECEIVED);
+    ROWS(image, HADULMIR_LAST_CLOCK, "8589934590 1 2; 8589941790 1 3");
+}
+
+static void test_cancel(void)
+{
+    uint8_t image[IMAGE], wanted[IMAGE];
+
+    begin(image, 4000);
+    EXPECT(image, cancel(1), HADULMIR_NOT_HELD);
+    EXPECT(image, event(1, 0, 1, 100, 5000, 600), HADULMIR_RECEIVED);
+    EXPECT(image, event(2, 0, 2, 100, 5000, 600), HADULMIR_RECEIVED);
+    EXPECT(image, event(4, 0, 1, 50, 5000, 600), HADULMIR_RECEIVED);
+    EXPECT(image, cancel(0), HADULMIR_NOT_HELD);
+    EXPECT(image, cancel(3), HADULMIR_NOT_HELD);
+    EXPECT(image, cancel(UINT64_MAX), HADULMIR_NOT_HELD);
+
+    /* Before its start: it never holds and gives no row. */
+    EXPECT(image, cancel(2), HADULMIR_CANCELLED);
+    EXPECT(image, cancel(2), 0);
+    LISTED(image, "1 5000-5600 0; 2 5000-5600 0 cancelled; 4 5000-5600 0");
+    ROWS(image, 5100, "5000 4 7; 5000 1 2");
+    HOLDER(image, 0, 1);
+    NONE(image, 1);
+
+    /* While it holds: from then on it holds nothing. The one that it had beaten does not come back, and can be cancelled too. */
+    memcpy(wanted, image, IMAGE);
+    EXPECT(image, cancel(1), HADULMIR_CANCELLED);
+    put(entry_of(wanted, 0) + 41, 4, 0);
+    entry_of(wanted, 0)[45] = 1;
+    CHECK(same(image, wanted));
+    NONE(image, 0);
+    EXPECT(image, cancel(4), HADULMIR_CANCELLED);
+    EXPECT(image, cancel(4), 0);
+    LISTED(image, "1 5000-5600 0 cancelled; 2 5000-5600 0 cancelled; 4 5000-5600 0 cancelled");
+    ROWS(image, 5599, "");
+    EXPECT(image, cancel(1), 0);
+    ROWS(image, 5600, "");
+    EXPECT(image, cancel(1), HADULMIR_NOT_HELD);
+    LISTED(image, "");
+
+    /* What it holds at the clock counts as held then: a worse one that starts at that moment is beaten, one second later it is not. */
+    begin(image, 4000);
+    EXPECT(image, event(1, 0, 1, 200, 5000, 600), HADULMIR_RECEIVED);
+    EXPECT(image, event(2, 0, 1, 100, 5100, 300), HADULMIR_RECEIVED);
+    EXPECT(image, event(3, 0, 1, 100, 5101, 300), HADULMIR_RECEIVED);
+    ROWS(image, 5100, "5000 1 2; 5100 2 7");
+    EXPECT(image, cancel(1), HADULMIR_CANCELLED);
+    ROWS(image, 6000, "5101 3 2; 5401 3 3");
+}
+
+static void test_set_clock(void)
+{
+    uint8_t image[IMAGE], wanted[IMAGE];
+    uint64_t reading;
+
+    begin(image, 4000);
+    EXPECT(image, set_clock(4000, 0), 0);
+    EXPECT(image, set_clock(3999, 0), HADULMIR_BAD_CLOCK);
+    EXPECT(image, set_clock(0, 1632), HADULMIR_BAD_CLOCK);
+    EXPECT(image, set_clock(HADULMIR_LAST_CLOCK + 1, 1632), HADULMIR_BAD_CLOCK);
+    EXPECT(image, set_clock(UINT64_MAX, 0), HADULMIR_BAD_CLOCK);
+    EXPECT(image, event(1, 0, 1, 100, 5000, 600), HADULMIR_RECEIVED);
+    EXPECT(image, set_clock(3999, 0), HADULMIR_BAD_CLOCK); /* 12 before 13 */
+    EXPECT(image, set_clock(HADULMIR_LAST_CLOCK + 1, 0), HADULMIR_BAD_CLOCK);
+    TRY(image, set_clock(HADULMIR_LAST_CLOCK, 34), 2);
+    TRY(image, set_clock(HADULMIR_LAST_CLOCK, 33), HADULMIR_TOO_SHORT);
+    TRY(image, set_clock(HADULMIR_LAST_CLOCK, 0), HADULMIR_TOO_SHORT);
+    ROWS(image, 4999, "");
+
+    /* The image after a clock call, whole. */
+    ROWS(image, 5000, "5000 1 2");
+    blank_image(wanted, 5000);
+    put_program(wanted, 0, 1, 0);
+    put_event(wanted, event(1, 0, 1, 100, 5000, 600), 5000, 1, 0);
+    CHECK(same(image, wanted));
+    ROWS(image, 5000, "");
+    CHECK(same(image, wanted));
+    ROWS(image, 5599, "");
+    ROWS(image, 5600, "5600 1 3");
+    blank_image(wanted, 5600);
+    put_program(wanted, 0, 1, 0);
+    CHECK(same(image, wanted));
+    ROWS(image, HADULMIR_LAST_CLOCK, "");
+    ROWS(image, HADULMIR_LAST_CLOCK, "");
+    EXPECT(image, set_clock(HADULMIR_LAST_CLOCK - 1, 0), HADULMIR_BAD_CLOCK);
+
+    /* Rows at one time: 3, then 7, then 2, each by id. */
+    begin(image, 4000);
+    EXPECT(image, event(9, 0, 1, 100, 5000, 100), HADULMIR_RECEIVED);
+    EXPECT(image, event(8, 0, 2, 100, 5000, 100), HADULMIR_RECEIVED);
+    EXPECT(image, event(7, 0, 4, 100, 5000, 200), HADULMIR_RECEIVED);
+    EXPECT(image, event(6, 0, 8, 100, 5000, 200), HADULMIR_RECEIVED);
+    EXPECT(image, event(5, 0, 12, 200, 5100, 100), HADULMIR_RECEIVED);
+    EXPECT(image, event(4, 0, 1, 200, 5100, 100), HADULMIR_RECEIVED);
+    EXPECT(image, event(3, 0, 1, 100, 5100, 100), HADULMIR_RECEIVED);
+    ROWS(image, 5100, "5000 6 2; 5000 7 2; 5000 8 2; 5000 9 2; 5100 8 3; 5100 9 3; 5100 3 7; 5100 6 7; 5100 7 7; 5100 4 2; 5100 5 2");
+
+    /* A call for each second gives what one call gives. */
+    begin(image, 4990);
+    EXPECT(image, event(1, 0, 3, 100, 5000, 20), HADULMIR_RECEIVED);
+    EXPECT(image, event(2, 0, 1, 200, 5005, 5), HADULMIR_RECEIVED);
+    EXPECT(image, event(3, 0, 3, 300, 5015, 3), HADULMIR_RECEIVED);
+    memcpy(wanted, image, IMAGE);
+    for (reading = 4991; reading <= 5030; reading++)
+        switch (reading) {
+        case 5000:
+            ROWS(image, reading, "5000 1 2");
+            break;
+        case 5005:
+            ROWS(image, reading, "5005 2 2");
+            break;
+        case 5010:
+            ROWS(image, reading, "5010 2 3");
+            break;
+        case 5015:
+            ROWS(image, reading, "5015 1 7; 5015 3 2");
+            break;
+        case 5018:
+            ROWS(image, reading, "5018 3 3");
+            break;
+        default:
+            ROWS(image, reading, "");
+        }
+    ROWS(wanted, 5030, "5000 1 2; 5005 2 2; 5010 2 3; 5015 1 7; 5015 3 2; 5018 3 3");
+    CHECK(same(image, wanted));
+}
+
+static void test_ask(void)
+{
+    uint8_t image[IMAGE];
+    unsigned c;
+
+    fresh(image);
+    for (c = 0; c < 32; c++)
+        NONE(image, (uint8_t)c);
+    for (c = 32; c < 256; c++) {
+        EXPECT(image, ask((uint8_t)c, 8), HADULMIR_CONTROL_TOO_LARGE);
+        EXPECT(image, ask((uint8_t)c, 0), HADULMIR_CONTROL_TOO_LARGE);
+    }
+
+    /* Each program as the default; the best primacy, then the smaller number. */
+    for (c = 0; c < 8; c++) {
+        EXPECT(image, add((uint8_t)c, 100, UINT32_C(1) << (c + 8)), 0);
+        FALLS_BACK(image, (uint8_t)(c + 8), (int32_t)c);
+        NONE(image, (uint8_t)c);
+    }
+    fresh(image);
+    EXPECT(image, add(6, 90, 0x80000003u), 0);
+    FALLS_BACK(image, 31, 6);
+    EXPECT(image, add(2, 91, 0x80000001u), 0);
+    FALLS_BACK(image, 31, 6);
+    EXPECT(image, add(3, 90, 0x00000001u), 0);
+    FALLS_BACK(image, 0, 3);
+    FALLS_BACK(image, 1, 6);
+    FALLS_BACK(image, 31, 6);
+    EXPECT(image, add(7, 0, 0x80000000u), 0);
+    FALLS_BACK(image, 31, 7);
+
+    /* A holder before a default, whatever the primacies; none before its start and after its end. 14 before 13. */
+    EXPECT(image, set_clock(4000, 0), 0);
+    EXPECT(image, event(UINT64_C(0xFEDCBA9876543210), 2, 0x80000000u, 100, 5000, 600), HADULMIR_RECEIVED);
+    FALLS_BACK(image, 31, 7);
+    ROWS(image, 5000, "5000 18364758544493064720 2");
+    HOLDER(image, 31, UINT64_C(0xFEDCBA9876543210));
+    EXPECT(image, ask(32, 7), HADULMIR_CONTROL_TOO_LARGE);
+    FALLS_BACK(image, 0, 3);
+    NONE(image, 30);
+    ROWS(image, 5600, "5600 18364758544493064720 3");
+    FALLS_BACK(image, 31, 7);
+}
+
+/* A full schedule: 48 events, one behind the other, ids not in the order of their starts. */
+static void fill(uint8_t *image)
+{
+    uint32_t i;
+
+    begin(image, 4000);
+    for (i = 0; i < 48; i++)
+        EXPECT(image, event((i * 5) % 48 + 100, 0, UINT32_C(1) << i % 32, i, 5000 + 10 * i, 5), HADULMIR_RECEIVED);
+}
+
+static void test_full(void)
+{
+    static char rows[TEXT_AT_MOST], records[TEXT_AT_MOST];
+    uint8_t image[IMAGE], copy[IMAGE];
+    char part[128];
+    uint32_t i;
+
+    fill(image);
+    EXPECT(image, event(1, 0, 1, 0, 5000, 5), HADULMIR_FULL);
+    EXPECT(image, event(100, 0, 1, 0, 5000, 5), 0);
+    EXPECT(image, event(100, 0, 1, 0, 5000, 6), HADULMIR_EVENT_DIFFERS); /* 8 before 10 */
+    EXPECT(image, event(1, 0, 1, 0, 3600, 400), HADULMIR_EVENT_EXPIRED); /* 9 before 10 */
+    EXPECT(image, event(1, 0, 0, 0, 5000, 5), HADULMIR_EVENT_INVALID);
+
+    rows[0] = records[0] = '\0';
+    for (i = 0; i < 48; i++) {
+        snprintf(part, sizeof part, "%u %u 2; %u %u 3", (unsigned)(5000 + 10 * i), (unsigned)(i * 5 % 48 + 100),
+                 (unsigned)(5005 + 10 * i), (unsigned)(i * 5 % 48 + 100));
+        append(rows, part);
+        snprintf(part, sizeof part, "%u %u-%u 0", (unsigned)(100 + i), (unsigned)(5000 + 10 * (i * 29 % 48)),
+                 (unsigned)(5005 + 10 * (i * 29 % 48)));
+        append(records, part);
+    }
+    CHECK(parts_of(rows) == HADULMIR_ROWS_AT_MOST && HADULMIR_ROWS_SIZE == 1632);
+    LISTED(image, records);
+    EXPECT(image, list(HADULMIR_RECORDS_SIZE), 48);
+    EXPECT(image, list(HADULMIR_RECORDS_SIZE - 1), HADULMIR_TOO_SHORT);
+    EXPECT(image, list(0), HADULMIR_TOO_SHORT);
+
+    /* 96 rows in one call: 1,632 bytes do, 1,631 do not. */
+    memcpy(copy, image, IMAGE);
+    EXPECT(copy, set_clock(6000, 1631), HADULMIR_TOO_SHORT);
+    EXPECT(copy, set_clock(6000, 1632), HADULMIR_ROWS_AT_MOST);
+    ROWS(image, 6000, rows);
+    CHECK(same(image, copy));
+    LISTED(image, "");
+
+    /* Every count of rows that a clock call can answer, in the exact room. */
+    fill(image);
+    for (i = 1; i <= HADULMIR_ROWS_AT_MOST; i++) {
+        TRY(image, set_clock(4995 + 5 * i, 17 * i), (int32_t)i);
+        TRY(image, set_clock(4995 + 5 * i, 17 * i - 1), HADULMIR_TOO_SHORT);
+    }
+
+    /* Every count of records. */
+    begin(image, 4000);
+    for (i = 1; i <= HADULMIR_EVENTS_AT_MOST; i++) {
+        EXPECT(image, event(UINT64_MAX / i, 0, 1, 0, 5000, 5), HADULMIR_RECEIVED);
+        EXPECT(image, list(46 * i), (int32_t)i);
+        EXPECT(image, list(46 * i - 1), HADULMIR_TOO_SHORT);
+    }
+
+    /* One place comes free at an end, not before. A cancelled event keeps its place. */
+    fill(image);
+    EXPECT(image, cancel(100), HADULMIR_CANCELLED);
+    ROWS(image, 5004, "");
+    EXPECT(image, event(1, 0, 1, 0, 7000, 5), HADULMIR_FULL);
+    ROWS(image, 5005, "");
+    EXPECT(image, event(1, 0, 1, 0, 7000, 5), HADULMIR_RECEIVED);
+    EXPECT(image, event(2, 0, 1, 0, 7000, 5), HADULMIR_FULL);
+
+    /* 48 events that start and end together, on 32 controls: 48 rows at the start, 32 at the end. */
+    begin(image, 4000);
+    for (i = 0; i < 48; i++)
+        EXPECT(image, event(i, 0, UINT32_C(1) << i % 32, i, 5000, 600), HADULMIR_RECEIVED);
+    rows[0] = '\0';
+    for (i = 0; i < 16; i++) {
+        snprintf(part, sizeof part, "5000 %u 7", (unsigned)i);
+        append(rows, part);
+    }
+    for (; i < 48; i++) {
+        snprintf(part, sizeof part, "5000 %u 2", (unsigned)i);
+        append(rows, part);
+    }
+    for (i = 16; i < 48; i++) {
+        snprintf(part, sizeof part, "5600 %u 3", (unsigned)i);
+        append(rows, part);
+    }
+    memcpy(copy, image, IMAGE);
+    ROWS(copy, 6000, rows);
+    EXPECT(image, set_clock(5000, 48 * 17), 48);
+    for (i = 0; i < 32; i++)
+        HOLDER(image, (uint8_t)i, i < 16 ? i + 32 : i);
+}
+
+/* DOCUMENT 01'S MARKS AND EXAMPLE */
+
+static const struct op mark = {.kind = DELIVER, .id = 1, .controls = 1, .created = 100, .start = 5000, .duration = 600};
+
+static void test_marks(void)
+{
+    uint8_t image[IMAGE];
+
+    /* T1 */
+    begin(image, 4999);
+    EXPECT(image, mark, HADULMIR_RECEIVED);
+    LISTED(image, "1 5000-5600 0");
+    ROWS(image, 6000, "5000 1 2; 5600 1 3");
+    /* T2 */
+    begin(image, 5000);
+    EXPECT(image, mark, HADULMIR_RECEIVED);
+    LISTED(image, "1 5001-5600 0");
+    ROWS(image, 6000, "5001 1 2; 5600 1 3");
+    /* T3 */
+    begin(image, 5598);
+    EXPECT(image, mark, HADULMIR_RECEIVED);
+    LISTED(image, "1 5599-5600 0");
+    ROWS(image, 6000, "5599 1 2; 5600 1 3");
+    /* T4 */
+    begin(image, 5599);
+    EXPECT(image, mark, HADULMIR_EVENT_EXPIRED);
+    LISTED(image, "");
+    /* T5 */
+    begin(image, 4000);
+    EXPECT(image, drawn(mark, -300, -300, 0, 0), HADULMIR_RECEIVED);
+    LISTED(image, "1 4700-5300 0");
+    ROWS(image, 6000, "4700 1 2; 5300 1 3");
+    /* T6 */
+    begin(image, 4000);
+    EXPECT(image, drawn(mark, -300, -301, 0, 0), HADULMIR_EVENT_INVALID);
+    EXPECT(image, drawn(mark, -300, 1, 0, 0), HADULMIR_EVENT_INVALID);
+    LISTED(image, "");
+    /* T7 */
+    EXPECT(image, drawn(event(1, 0, 1, 100, 5000, 10), 0, 0, -10, -10), HADULMIR_EVENT_INVALID);
+    EXPECT(image, drawn(event(1, 0, 1, 100, 5000, 10), 0, 0, -10, -9), HADULMIR_RECEIVED);
+    LISTED(image, "1 5000-5001 0");
+    ROWS(image, 6000, "5000 1 2; 5001 1 3");
+    /* T8 */
+    begin(image, 4000);
+    EXPECT(image, mark, HADULMIR_RECEIVED);
+    EXPECT(image, event(2, 0, 1, 100, 5600, 600), HADULMIR_RECEIVED);
+    ROWS(image, 7000, "5000 1 2; 5600 1 3; 5600 2 2; 6200 2 3");
+    /* T9 */
+    begin(image, 4000);
+    EXPECT(image, mark, HADULMIR_RECEIVED);
+    EXPECT(image, event(2, 0, 1, 99, 5000, 600), HADULMIR_RECEIVED);
+    ROWS(image, 7000, "5000 2 7; 5000 1 2; 5600 1 3");
+    /* T10 */
+    begin(image, 4000);
+    EXPECT(image, event(1, 0, 1, 300, 5000, 10), HADULMIR_RECEIVED);
+    EXPECT(image, event(2, 0, 1, 200, 5005, 25), HADULMIR_RECEIVED);
+    EXPECT(image, event(3, 0, 1, 100, 5012, 8), HADULMIR_RECEIVED);
+    ROWS(image, 7000, "5000 1 2; 5005 2 7; 5010 1 3; 5012 3 2; 5020 3 3");
+    /* T11 */
+    begin(image, 4000);
+    EXPECT(image, event(1, 0, 3, 100, 5000, 600), HADULMIR_RECEIVED);
+    EXPECT(image, event(2, 0, 1, 200, 5200, 100), HADULMIR_RECEIVED);
+    ROWS(image, 5250, "5000 1 2; 5200 2 2");
+    HOLDER(image, 0, 2);
+    HOLDER(image, 1, 1);
+    LISTED(image, "1 5000-5600 2; 2 5200-5300 1");
+    ROWS(image, 5300, "5300 2 3");
+    NONE(image, 0);
+    ROWS(image, 7000, "5600 1 3");
+    /* T12 */
+    begin(image, 4000);
+    EXPECT(image, add(1, 0, 0), 0);
+    EXPECT(image, event(1, 1, 1, 100, 5000, 600), HADULMIR_RECEIVED);
+    EXPECT(image, event(2, 0, 1, 200, 5000, 600), HADULMIR_RECEIVED);
+    ROWS(image, 7000, "5000 2 7; 5000 1 2; 5600 1 3");
+    /* and the last tie: the larger id is better */
+    begin(image, 4000);
+    EXPECT(image, mark, HADULMIR_RECEIVED);
+    EXPECT(image, event(2, 0, 1, 100, 5000, 600), HADULMIR_RECEIVED);
+    ROWS(image, 7000, "5000 1 7; 5000 2 2; 5600 2 3");
+}
+
+static void test_example(void)
+{
+    uint8_t image[IMAGE];
+
+    fresh(image);
+    EXPECT(image, add(0, 1, 1), 0);
+    ROWS(image, 4000, "");
+    EXPECT(image, event(1, 0, 1, 100, 5000, 600), HADULMIR_RECEIVED);
+    EXPECT(image, event(2, 0, 1, 200, 5300, 60), HADULMIR_RECEIVED);
+    ROWS(image, 6000, "5000 1 2; 5300 1 7; 5300 2 2; 5360 2 3");
+    FALLS_BACK(image, 0, 0);
+    LISTED(image, "");
+}
+
+/* IMAGES MADE BY HAND */
+
+/* No list of calls leads to these images, yet they keep every rule; the rules run on from them. */
+static void test_unreachable(void)
+{
+    uint8_t image[IMAGE];
+    const struct op e = event(1, 0, 1, 100, 5000, 600);
+
+    /* An effective start later than the drawn start and than the second after the clock. */
+    blank_image(image, 4000);
+    put_program(image, 0, 1, 0);
+    put_event(image, e, 5500, 0, 0);
+    LISTED(image, "1 5500-5600 0");
+    EXPECT(image, e, 0);
+    ROWS(image, 5499, "");
+    ROWS(image, 6000, "5500 1 2; 5600 1 3");
+
+    /* The better event has started and holds nothing, beside a worse one that holds: it gains nothing and blocks nobody. */
+    blank_image(image, 5100);
+    put_program(image, 0, 1, 0);
+    put_event(image, e, 5000, 1, 0);
+    put_event(image, event(2, 0, 1, 200, 5000, 900), 5000, 0, 0);
+    put_event(image, event(3, 0, 1, 50, 5650, 10), 5650, 0, 0);
+    HOLDER(image, 0, 1);
+    LISTED(image, "1 5000-5600 1; 2 5000-5900 0; 3 5650-5660 0");
+    ROWS(image, 5601, "5600 1 3");
+    NONE(image, 0);
+    ROWS(image, 6000, "5650 3 2; 5660 3 3");
+
+    /* A started event that holds less than it carries, though nobody has the rest. */
+    blank_image(image, 5100);
+    put_program(image, 0, 1, 0);
+    put_event(image, event(1, 0, 7, 100, 5000, 600), 5100, 2, 0);
+    NONE(image, 0);
+    HOLDER(image, 1, 1);
+    ROWS(image, 6000, "5600 1 3");
+
+    /* Started at clock 0, with and without a control. */
+    blank_image(image, 0);
+    put_program(image, 0, 1, 0);
+    put_event(image, drawn(event(1, 0, 1, 100, 3600, 600), -3600, -3600, 0, 0), 0, 1, 0);
+    put_event(image, drawn(event(2, 0, 2, 100, 3600, 600), -3600, -3600, 0, 0), 0, 0, 0);
+    HOLDER(image, 0, 1);
+    NONE(image, 1);
+    ROWS(image, 1000, "600 1 3");
+
+    /* What is held at the clock of the image can be lost in the next second. */
+    blank_image(image, 5100);
+    put_program(image, 0, 1, 0);
+    put_event(image, e, 5000, 1, 0);
+    put_event(image, event(2, 0, 1, 200, 5101, 10), 5101, 0, 0);
+    ROWS(image, 5101, "5101 1 7; 5101 2 2");
+
+    /* Number 9 is no rule of images: start + duration has passed, the effective end has not. A delivery then answers 0. */
+    blank_image(image, 5650);
+    put_program(image, 0, 1, 0);
+    put_event(image, drawn(e, 0, 0, 100, 100), 5699, 0, 0);
+    EXPECT(image, drawn(e, 0, 0, 100, 100), 0);
+    ROWS(image, 5700, "5699 1 2; 5700 1 3");
+
+    /* The worse of two holds a control although the better one that carries it holds another. */
+    blank_image(image, 5100);
+    put_program(image, 0, 1, 0);
+    put_program(image, 5, 191, 0xFFFFFFFFu);
+    put_event(image, event(1, 5, 3, 100, 5000, 600), 5000, 1, 0);
+    put_event(image, event(2, 0, 3, 100, 5000, 500), 5000, 2, 0);
+    HOLDER(image, 0, 1);
+    HOLDER(image, 1, 2);
+    FALLS_BACK(image, 2, 5);
+    ROWS(image, 6000, "5500 2 3; 5600 1 3");
+}
+
+/* Arguments that, on an accepted image, would be refused by another number, or accepted: number 2 comes first. */
+static void all_refuse_at(const uint8_t *image, size_t len, int line)
+{
+    const struct op ops[] = {
+        add(6, 1, 0), add(255, 3, 0), event(77, 0, 4, 0, 9000, 9), event(10, 9, 0, 0, 0, 0), cancel(10), cancel(1),
+        set_clock(5200, 1632), set_clock(0, 0), ask(0, 8), ask(99, 0), list(2208), list(0)};
+    uint8_t copy[2 * IMAGE];
+    size_t i;
+
+    for (i = 0; i < sizeof ops / sizeof ops[0]; i++) {
+        int32_t returned;
+
+        memcpy(copy, image, len);
+        returned = call_at_length(copy, len, ops[i]);
+        if (returned != HADULMIR_BAD_IMAGE && failed < 40)
+            printf("face.c:%d: call %u returned %" PRId32 "\n", line, (unsigned)i, returned);
+        check(returned == HADULMIR_BAD_IMAGE, "a broken image is refused", line);
+    }
+}
+
+/* A sound image to break: a holder, a cancelled event, one that waits. */
+static void sound_image(uint8_t *image)
+{
+    blank_image(image, 5100);
+    put_program(image, 0, 1, 0xF);
+    put_program(image, 2, 191, 0);
+    put_event(image, drawn(event(10, 0, 3, 100, 5000, 600), -100, -50, 100, 50), 4950, 1, 0);
+    put_event(image, event(20, 2, 1, 200, 5000, 600), 5000, 0, 1);
+    put_event(image, event(30, 0, 2, 300, 5200, 600), 5200, 0, 0);
+}
+
+/* One number of the sound image changed: `size` bytes at `at`. */
+static void broken_at(size_t at, size_t size, uint64_t number, int line)
+{
+    uint8_t image[IMAGE];
+
+    sound_image(image);
+    put(image + at, size, number);
+    all_refuse_at(image, IMAGE, line);
+}
+
+static void unbroken_at(size_t at, size_t size, uint64_t number, int line)
+{
+    uint8_t image[IMAGE];
+
+    sound_image(image);
+    put(image + at, size, number);
+    expect_at(image, list(138), 3, line);
+}
+
+#define BREAKS(at, size, number) broken_at((at), (size), (number), __LINE__)
+#define KEEPS(at, size, number) unbroken_at((at), (size), (number), __LINE__)
+#define PROGRAM(n) (9 + 6 * (size_t)(n))
+#define ENTRY(i) (EVENTS_FROM + HADULMIR_RECORD_SIZE * (size_t)(i))
+
+static void test_broken(void)
+{
+    static const size_t lengths[] = {0, 1, 8, 9, 57, 103, IMAGE - 1, IMAGE + 1, 2 * IMAGE};
+    uint8_t image[IMAGE], other[2 * IMAGE];
+    size_t i;
+
+    sound_image(image);
+    EXPECT(image, list(138), 3);
+    EXPECT(image, ask(0, 8), HADULMIR_EVENT);
+
+    /* length */
+    memset(other, 0, sizeof other);
+    memcpy(other, image, IMAGE);
+    for (i = 0; i < sizeof lengths / sizeof lengths[0]; i++)
+        all_refuse_at(other, lengths[i], __LINE__);
+
+    /* limits */
+    blank_image(image, HADULMIR_LAST_CLOCK);
+    EXPECT(image, list(0), 0);
+    blank_image(image, HADULMIR_LAST_CLOCK + 1);
+    all_refuse_at(image, IMAGE, __LINE__);
+    blank_image(image, UINT64_MAX);
+    all_refuse_at(image, IMAGE, __LINE__);
+    BREAKS(8, 1, 49);
+    BREAKS(8, 1, 255);
+
+    /* marks */
+    BREAKS(PROGRAM(0), 1, 2);
+    BREAKS(PROGRAM(7), 1, 255);
+    BREAKS(ENTRY(1) + 45, 1, 2);
+    BREAKS(ENTRY(0) + 45, 1, 255);
+    BREAKS(ENTRY(47) + 45, 1, 2);
+
+    /* unused entries zero */
+    BREAKS(PROGRAM(1) + 1, 1, 1);
+    BREAKS(PROGRAM(7) + 2, 4, 1);
+    BREAKS(PROGRAM(3) + 2, 4, 0x80000000u);
+    BREAKS(8, 1, 2);
+    BREAKS(8, 1, 4);
+    for (i = 0; i < HADULMIR_RECORD_SIZE; i++) {
+        BREAKS(ENTRY(3) + i, 1, 1);
+        BREAKS(ENTRY(47) + i, 1, 1);
+    }
+
+    /* added programs: 5 */
+    BREAKS(PROGRAM(0) + 1, 1, 3);
+    BREAKS(PROGRAM(0) + 1, 1, 64);
+    KEEPS(PROGRAM(0) + 1, 1, 65);
+    BREAKS(PROGRAM(2) + 1, 1, 192);
+    BREAKS(PROGRAM(2) + 1, 1, 255);
+    KEEPS(PROGRAM(2) + 1, 1, 0);
+
+    /* ids ascending */
+    BREAKS(ENTRY(1), 8, 10);
+    BREAKS(ENTRY(1), 8, 9);
+    BREAKS(ENTRY(1), 8, 30);
+    BREAKS(ENTRY(2), 8, 0);
+    BREAKS(ENTRY(0), 8, UINT64_MAX);
+    KEEPS(ENTRY(1), 8, 11);
+    KEEPS(ENTRY(2), 8, UINT64_MAX);
+
+    /* 3 and 6 */
+    BREAKS(ENTRY(0) + 8, 1, 8);
+    BREAKS(ENTRY(2) + 8, 1, 255);
+    BREAKS(ENTRY(0) + 8, 1, 1);
+    BREAKS(ENTRY(2) + 8, 1, 7);
+    KEEPS(ENTRY(0) + 8, 1, 2);
+
+    /* 7 */
+    BREAKS(ENTRY(2) + 9, 4, 0);
+    BREAKS(ENTRY(2) + 17, 4, 3599);
+    BREAKS(ENTRY(2) + 21, 4, 0);
+    BREAKS(ENTRY(2) + 25, 2, 3601);
+    KEEPS(ENTRY(2) + 25, 2, 3600);
+    BREAKS(ENTRY(2) + 25, 2, hadulmir_signed(-3601));
+    KEEPS(ENTRY(2) + 25, 2, hadulmir_signed(-3600));
+    BREAKS(ENTRY(2) + 27, 2, 3601);
+    BREAKS(ENTRY(2) + 27, 2, hadulmir_signed(-3601));
+    BREAKS(ENTRY(2) + 27, 2, 0x8000);
+    BREAKS(ENTRY(2) + 29, 2, hadulmir_signed(-1));
+    BREAKS(ENTRY(0) + 29, 2, 1);
+    BREAKS(ENTRY(2) + 31, 2, 1);
+    BREAKS(ENTRY(2) + 31, 2, hadulmir_signed(-1));
+    BREAKS(ENTRY(0) + 31, 2, 101);
+    KEEPS(ENTRY(0) + 31, 2, 100);
+    blank_image(image, 4000);
+    put_program(image, 0, 1, 0);
+    put_event(image, drawn(event(1, 0, 1, 0, 5000, 10), 0, 0, -10, -9), 5000, 0, 0);
+    EXPECT(image, list(46), 1);
+    put(entry_of(image, 0) + 31, 2, hadulmir_signed(-10));
+    all_refuse_at(image, IMAGE, __LINE__);
+
+    /* effective start: not before the drawn start, before the effective end */
+    BREAKS(ENTRY(0) + 33, 8, 4949);
+    KEEPS(ENTRY(0) + 33, 8, 4951);
+    BREAKS(ENTRY(2) + 33, 8, 5199);
+    KEEPS(ENTRY(2) + 33, 8, 5799);
+    BREAKS(ENTRY(2) + 33, 8, 5800);
+    BREAKS(ENTRY(2) + 33, 8, UINT64_MAX);
+    BREAKS(ENTRY(2) + 33, 8, 0);
+
+    /* effective end after the clock */
+    KEEPS(0, 8, 5599);
+    BREAKS(0, 8, 5600);
+    BREAKS(0, 8, 5800);
+    BREAKS(0, 8, HADULMIR_LAST_CLOCK);
+
+    /* held mask: within the controls, zero before the start, zero if cancelled, no bit shared */
+    BREAKS(ENTRY(0) + 41, 4, 4);
+    BREAKS(ENTRY(0) + 41, 4, 0x80000001u);
+    KEEPS(ENTRY(0) + 41, 4, 3);
+    KEEPS(ENTRY(0) + 41, 4, 0);
+    BREAKS(ENTRY(2) + 41, 4, 2);
+    BREAKS(0, 8, 4949);
+    KEEPS(0, 8, 4950);
+    BREAKS(ENTRY(1) + 41, 4, 1);
+    BREAKS(ENTRY(0) + 45, 1, 1);
+    blank_image(image, 5100);
+    put_program(image, 0, 1, 0);
+    put_event(image, event(1, 0, 3, 0, 5000, 600), 5000, 1, 0);
+    put_event(image, event(2, 0, 4, 0, 5000, 600), 5000, 4, 0);
+    put_event(image, event(3, 0, 3, 0, 5000, 600), 5000, 2, 0);
+    EXPECT(image, list(138), 3);
+    put(entry_of(image, 2) + 41, 4, 3);
+    all_refuse_at(image, IMAGE, __LINE__);
+    put(entry_of(image, 2) + 41, 4, 1);
+    all_refuse_at(image, IMAGE, __LINE__);
+
+    /* A fresh image can be made over any bytes. */
+    CHECK(hadulmir_fresh(image, IMAGE) == 0);
+    EXPECT(image, list(0), 0);
+}
+
+/* The rules of images once more, written from document 01 for this test. */
+static int draw_fits(int32_t randomisation, int32_t draw)
+{
+    return randomisation < 0 ? randomisation <= draw && draw <= 0 : 0 <= draw && draw <= randomisation;
+}
+
+static int event_keeps_rules(const uint8_t *image, const struct hadulmir_record *r)
+{
+    uint64_t clock = hadulmir_clock_of(image);
+    int64_t drawn_start = (int64_t)r->start + r->start_draw;
+    int64_t end = drawn_start + r->duration + r->duration_draw;
+
+    if (r->program > 7 || image[9 + 6 * r->program] != 1)
+        return 0;
+    if (r->controls == 0 || r->start < 3600 || r->duration == 0 || (int64_t)r->duration + r->duration_draw < 1)
+        return 0;
+    if (abs(r->randomize_start) > 3600 || abs(r->randomize_duration) > 3600)
+        return 0;
+    if (!draw_fits(r->randomize_start, r->start_draw) || !draw_fits(r->randomize_duration, r->duration_draw))
+        return 0;
+    if (r->effective_start < (uint64_t)drawn_start || r->effective_start >= (uint64_t)end || (uint64_t)end <= clock)
+        return 0;
+    if ((r->held & ~r->controls) != 0 || r->cancelled > 1)
+        return 0;
+    return r->held == 0 || (clock >= r->effective_start && !r->cancelled);
+}
+
+static int keeps_rules(const uint8_t *image)
+{
+    uint32_t taken = 0;
+    uint64_t last = 0;
+    size_t i;
+
+    if (hadulmir_clock_of(image) > HADULMIR_LAST_CLOCK || image[8] > 48)
+        return 0;
+    for (i = 0; i < 8; i++) {
+        const uint8_t *p = image + 9 + 6 * i;
+
+        if (p[0] > 1 || (p[0] == 0 && hadulmir_number_at(p, 6) != 0))
+            return 0;
+        if (p[0] == 1 && !(p[1] <= 2 || (65 <= p[1] && p[1] <= 191)))
+            return 0;
+    }
+    for (i = ENTRY(image[8]); i < IMAGE; i++)
+        if (image[i] != 0)
+            return 0;
+    for (i = 0; i < image[8]; i++) {
+        struct hadulmir_record r = hadulmir_record_at(image + EVENTS_FROM, i);
+
+        if ((i > 0 && r.id <= last) || !event_keeps_rules(image, &r) || (r.held & taken) != 0)
+            return 0;
+        last = r.id;
+        taken |= r.held;
+    }
+    return 1;
+}
+
+/* Numbers that look random, the same in every run. */
+static uint32_t next_random(void)
+{
+    static uint32_t state = 20305;
+
+    state = state * 1664525u + 1013904223u;
+    return state >> 8;
+}
+
+/* Changes one number of an image: a field by its place and size, to a value near an edge. */
+static void change_a_number(uint8_t *image)
+{
+    static const struct {
+        uint8_t at, size;
+    } fields[] = {{0, 8}, {8, 1}, {9, 4}, {13, 4}, {17, 4}, {21, 4}, {25, 2}, {27, 2}, {29, 2}, {31, 2}, {33, 8}, {41, 4}, {45, 1}};
+    uint32_t f = next_random() % 13;
+    size_t entries = image[8] > 0 && image[8] < 48 ? image[8] + 1u : 48;
+    size_t at = ENTRY(next_random() % entries) + fields[f].at;
+    size_t size = fields[f].size;
+    uint64_t old;
+
+    switch (next_random() % 8) {
+    case 0:
+        at = 0, size = 8;
+        break;
+    case 1:
+        at = PROGRAM(next_random() % 8) + next_random() % 2, size = 1;
+        break;
+    case 2:
+        at = 8 + next_random() % (IMAGE - 8), size = 1;
+        break;
+    }
+    old = hadulmir_number_at(image + at, size);
+    switch (next_random() % 6) {
+    case 0:
+        put(image + at, size, old + 1);
+        break;
+    case 1:
+        put(image + at, size, old - 1);
+        break;
+    case 2:
+        put(image + at, size, next_random() % 8);
+        break;
+    case 3:
+        put(image + at, size, old + next_random() % 400);
+        break;
+    case 4:
+        put(image + at, size, old - next_random() % 400);
+        break;
+    case 5:
+        put(image + at, size, old ^ (UINT64_C(1) << next_random() % 64));
+        break;
+    }
+}
+
+/* Images changed at random: each function refuses with 2 those that break a rule, and no others. */
+static void test_changed(void)
+{
+    static uint8_t base[4][IMAGE];
+    uint8_t image[IMAGE], copy[IMAGE];
+    unsigned kept = 0, broken = 0;
+    unsigned i, j;
+
+    sound_image(base[0]);
+    fill(base[1]);
+    EXPECT(base[1], set_clock(5003, 17), 1);
+    fresh(base[2]);
+    begin(base[3], 4000);
+    for (i = 0; i < 6; i++)
+        EXPECT(base[3], event(i * i, 0, 3u << i, i % 3, 5000 + 50 * (i % 4), 300), HADULMIR_RECEIVED);
+    EXPECT(base[3], cancel(4), HADULMIR_CANCELLED);
+    EXPECT(base[3], set_clock(5120, 1632), 4);
+    for (i = 0; i < 6000; i++) {
+        const struct op ops[] = {add((uint8_t)(i % 8), 1, 1), event(i % 50, 0, 1 + i % 7, i, 5000 + i, 50), cancel(i % 30),
+                                 set_clock(hadulmir_clock_of(base[i % 4]) + i % 500, 1632), ask((uint8_t)(i % 32), 8), list(2208)};
+        int sound, all = 1;
+
+        memcpy(image, base[i % 4], IMAGE);
+        do
+            change_a_number(image);
+        while (next_random() % 4 == 0);
+        sound = keeps_rules(image);
+        *(sound ? &kept : &broken) += 1;
+        for (j = 0; j < 6; j++) {
+            int32_t returned;
+
+            memcpy(copy, image, IMAGE);
+            returned = call(copy, ops[j]);
+            all = all && (returned == HADULMIR_BAD_IMAGE) == !sound && keeps_rules(copy) == sound;
+        }
+        CHECK(all);
+    }
+    CHECK(kept > 500 && broken > 500);
+}
+
+/* LOSS OF POWER */
+
+#define OPS 26
+
+static void day(struct op *ops)
+{
+    const struct op list_of_calls[OPS] = {
+        add(0, 1, 1), add(1, 0, 2), ask(0, 8), set_clock(4000, 1632), event(1, 0, 1, 100, 5000, 600), event(2, 0, 1, 200, 5300, 60),
+        event(3, 1, 3, 50, 5350, 100), drawn(event(4, 0, 0x80000000u, 50, 5000, 500), -300, -17, 100, 9), event(1, 0, 1, 100, 5000, 600),
+        list(2208), set_clock(5000, 1632), ask(0, 8), cancel(9), set_clock(5310, 33), set_clock(5310, 34), ask(0, 8), list(91), list(200),
+        cancel(4), cancel(4), set_clock(5360, 1632), event(5, 0, 0, 0, 0, 0), event(6, 1, 4, 1, 5300, 200), ask(1, 8), set_clock(7000, 1632),
+        list(0)};
+
+    memcpy(ops, list_of_calls, sizeof list_of_calls);
+}
+
+/* Runs the list; from bit k of `cuts` on, the host has a copy of the image that was made after call k, and the old one is overwritten. */
+static void run_day(uint64_t cuts, int32_t *returned, uint8_t (*lent)[LENT_AT_MOST], uint8_t (*images)[IMAGE])
+{
+    struct op ops[OPS];
+    struct lent own = lend(IMAGE);
+    size_t k;
+
+    day(ops);
+    CHECK(hadulmir_fresh(own.at, IMAGE) == 0);
+    for (k = 0; k < OPS; k++) {
+        struct lent room = lend(ops[k].room);
+
+        returned[k] = act(own.at, IMAGE, &ops[k], room.at);
+        memset(lent[k], 0, LENT_AT_MOST);
+        memcpy(lent[k], room.at, room.len);
+        memcpy(images[k], own.at, IMAGE);
+        free(room.block);
+        if ((cuts >> k & 1) != 0) {
+            struct lent next = lend(IMAGE);
+
+            memcpy(next.at, own.at, IMAGE);
+            memset(own.at, 0xEE, IMAGE);
+            free(own.block);
+            own = next;
+        }
+    }
+    free(own.block);
+}
+
+static void test_power(void)
+{
+    static const int32_t wanted[OPS] = {0, 0, 2, 0, 1, 1, 1, 1, 0, 4, 2, 1, -11, -13, 2, 1, -13, 4, 6, 0, 2, -7, 1, 1, 3, 0};
+    static uint8_t lent[2][OPS][LENT_AT_MOST], images[2][OPS][IMAGE];
+    int32_t returned[2][OPS];
+    uint64_t cuts;
+    unsigned k;
+
+    run_day(0, returned[0], lent[0], images[0]);
+    for (k = 0; k < OPS; k++) {
+        if (returned[0][k] != wanted[k])
+            printf("face.c: call %u of the day returned %" PRId32 "\n", k, returned[0][k]);
+        CHECK(returned[0][k] == wanted[k]);
+        CHECK(keeps_rules(images[0][k]));
+    }
+    /* after each single call, then after every one */
+    for (k = 0; k <= OPS; k++) {
+        cuts = k < OPS ? UINT64_C(1) << k : UINT64_MAX;
+        run_day(cuts, returned[1], lent[1], images[1]);
+        CHECK(memcmp(returned[0], returned[1], sizeof returned[0]) == 0);
+        CHECK(memcmp(lent[0], lent[1], sizeof lent[0]) == 0);
+        CHECK(memcmp(images[0], images[1], sizeof images[0]) == 0);
+    }
+}
+
+/* THE HEADER */
+
+static void test_header(void)
+{
+    static const uint8_t row[34] = {[24] = 9, [25] = 1, [33] = 7, [17] = 1, [18] = 2};
+    int32_t n;
+
+    CHECK(HADULMIR_IMAGE_SIZE == 2265 && HADULMIR_ROW_SIZE == 17 && HADULMIR_ROWS_AT_MOST == 96 && HADULMIR_ROWS_SIZE == 1632);
+    CHECK(HADULMIR_RECORD_SIZE == 46 && HADULMIR_EVENTS_AT_MOST == 48 && HADULMIR_RECORDS_SIZE == 2208);
+    CHECK(HADULMIR_LAST_CLOCK == UINT64_C(9000000000));
+    for (n = -40000; n <= 40000; n++) {
+        uint8_t bytes[2];
+        uint16_t bits = hadulmir_signed(n);
+
+        bytes[0] = (uint8_t)(bits >> 8);
+        bytes[1] = (uint8_t)bits;
+        if (hadulmir_signed_at(bytes) != (n < -32768 || n > 32767 ? -32768 : n))
+            break;
+    }
+    CHECK(n == 40001);
+    CHECK(hadulmir_signed(-1) == 0xFFFF && hadulmir_signed(-3600) == 61936 && hadulmir_signed(3600) == 3600);
+    CHECK(hadulmir_signed(INT32_MIN) == 0x8000 && hadulmir_signed(INT32_MAX) == 0x8000);
+    for (n = -20; n <= 100; n++) {
+        CHECK(hadulmir_is_refusal(n) == (n < 0));
+        CHECK(hadulmir_response_for(n) == (n == -7 ? 253 : n == -9 ? 254 : n == 1 ? 1 : n == 6 ? 6 : 0));
+    }
+    CHECK(hadulmir_row_at(row, 1).time == UINT64_C(0x0102000000000009) && hadulmir_row_at(row, 1).id == UINT64_C(0x0100000000000000)
+          && hadulmir_row_at(row, 1).code == 7);
+    CHECK(HADULMIR_BAD_IMAGE == -2 && HADULMIR_PROGRAM_TOO_LARGE == -3 && HADULMIR_PROGRAM_ADDED == -4 && HADULMIR_PRIMACY_RESERVED == -5);
+    CHECK(HADULMIR_PROGRAM_UNKNOWN == -6 && HADULMIR_EVENT_INVALID == -7 && HADULMIR_EVENT_DIFFERS == -8 && HADULMIR_EVENT_EXPIRED == -9);
+    CHECK(HADULMIR_FULL == -10 && HADULMIR_NOT_HELD == -11 && HADULMIR_BAD_CLOCK == -12 && HADULMIR_TOO_SHORT == -13);
+    CHECK(HADULMIR_CONTROL_TOO_LARGE == -14);
+}
+
+/* A record with every field different, through the part and the helper. */
+static void test_record(void)
+{
+    uint8_t image[IMAGE];
+    struct hadulmir_record r;
+
+    fresh(image);
+    EXPECT(image, add(7, 191, 0), 0);
+    EXPECT(image, drawn(event(UINT64_C(0x0102030405060708), 7, 0xA1B2C3D4u, 0x11223344, 0x55667788, 0x99AABBCCu), -3600, -2, 3599, 3),
+           HADULMIR_RECEIVED);
+    EXPECT(image, list(46), 1);
+    r = hadulmir_record_at(lent_bytes, 0);
+    CHECK(r.id == UINT64_C(0x0102030405060708) && r.program == 7 && r.controls == 0xA1B2C3D4u && r.created == 0x11223344);
+    CHECK(r.start == 0x55667788 && r.duration == 0x99AABBCCu);
+    CHECK(r.randomize_start == -3600 && r.randomize_duration == 3599 && r.start_draw == -2 && r.duration_draw == 3);
+    CHECK(r.effective_start == 0x55667786 && r.held == 0 && r.cancelled == 0);
+    CHECK(hadulmir_effective_end(&r) == UINT64_C(0x55667786) + 0x99AABBCCu + 3);
+}
+
+int main(void)
+{
+    test_header();
+    test_record();
+    test_fresh();
+    test_add_program();
+    test_deliver_answers();
+    test_deliver_refusals();
+    test_cancel();
+    test_set_clock();
+    test_ask();
+    test_full();
+    test_marks();
+    test_example();
+    test_unreachable();
+    test_broken();
+    test_changed();
+    test_power();
+    printf("face: %u passed, %u failed\n", passed, failed);
+    return failed != 0;
+}

@@ -1,0 +1,92 @@
+// The header from C++: it is included twice, each constant, name and helper is used, each function is called once.
+#include "hadulmir.h"
+#include "hadulmir.h"
+
+#include <cstdio>
+#include <cstring>
+
+static unsigned passed, failed;
+
+static void check(bool ok, int line)
+{
+    if (ok) {
+        passed++;
+        return;
+    }
+    failed++;
+    std::printf("header.cpp:%d: failed\n", line);
+}
+
+#define CHECK(ok) check((ok), __LINE__)
+
+static_assert(HADULMIR_IMAGE_SIZE == 2265 && HADULMIR_ROW_SIZE == 17 && HADULMIR_ROWS_AT_MOST == 96, "sizes");
+static_assert(HADULMIR_ROWS_SIZE == 1632 && HADULMIR_RECORD_SIZE == 46 && HADULMIR_EVENTS_AT_MOST == 48, "sizes");
+static_assert(HADULMIR_RECORDS_SIZE == 2208 && HADULMIR_ID_SIZE == 8 && HADULMIR_PROGRAMS == 8 && HADULMIR_CONTROLS == 32, "sizes");
+static_assert(HADULMIR_LAST_CLOCK == 9000000000u && HADULMIR_STACK_SIZE > 0, "limits");
+static_assert(HADULMIR_IMAGE_SIZE == 8 + 1 + HADULMIR_PROGRAMS * 6 + HADULMIR_EVENTS_AT_MOST * HADULMIR_RECORD_SIZE, "image layout");
+
+// Every refusal has a name.
+static bool is_named(int32_t returned)
+{
+    switch (returned) {
+    case HADULMIR_BAD_IMAGE:
+    case HADULMIR_PROGRAM_TOO_LARGE:
+    case HADULMIR_PROGRAM_ADDED:
+    case HADULMIR_PRIMACY_RESERVED:
+    case HADULMIR_PROGRAM_UNKNOWN:
+    case HADULMIR_EVENT_INVALID:
+    case HADULMIR_EVENT_DIFFERS:
+    case HADULMIR_EVENT_EXPIRED:
+    case HADULMIR_FULL:
+    case HADULMIR_NOT_HELD:
+    case HADULMIR_BAD_CLOCK:
+    case HADULMIR_TOO_SHORT:
+    case HADULMIR_CONTROL_TOO_LARGE:
+        return true;
+    default:
+        return false;
+    }
+}
+
+int main()
+{
+    uint8_t image[HADULMIR_IMAGE_SIZE], rows[HADULMIR_ROWS_SIZE], records[HADULMIR_RECORDS_SIZE], id[HADULMIR_ID_SIZE];
+
+    for (int32_t n = -20; n < 20; n++)
+        CHECK(is_named(n) == (n <= -2 && n >= -14));
+
+    CHECK(hadulmir_fresh(image, sizeof image) == 0);
+    CHECK(hadulmir_add_program(image, sizeof image, 0, 1, 0x2) == 0);
+    int32_t returned = hadulmir_deliver(image, sizeof image, 7, 0, 0x1, 100, 5000, 600, hadulmir_signed(-300), hadulmir_signed(0),
+                                        hadulmir_signed(-300), hadulmir_signed(0));
+    CHECK(returned == HADULMIR_RECEIVED && !hadulmir_is_refusal(returned) && hadulmir_response_for(returned) == HADULMIR_RECEIVED);
+    CHECK(hadulmir_set_clock(image, sizeof image, 4700, rows, sizeof rows) == 1);
+    hadulmir_row row = hadulmir_row_at(rows, 0);
+    CHECK(row.time == 4700 && row.id == 7 && row.code == HADULMIR_STARTED);
+    CHECK(hadulmir_clock_of(image) == 4700);
+
+    CHECK(hadulmir_ask(image, sizeof image, 0, id, sizeof id) == HADULMIR_EVENT && hadulmir_id_at(id) == 7);
+    CHECK(hadulmir_number_at(id, 8) == 7);
+    CHECK(hadulmir_ask(image, sizeof image, 1, id, sizeof id) == HADULMIR_DEFAULT + 0);
+    CHECK(hadulmir_ask(image, sizeof image, 2, id, sizeof id) == HADULMIR_NOBODY);
+
+    CHECK(hadulmir_list(image, sizeof image, records, sizeof records) == 1);
+    hadulmir_record record = hadulmir_record_at(records, 0);
+    CHECK(record.id == 7 && record.program == 0 && record.controls == 1 && record.created == 100 && record.start == 5000);
+    CHECK(record.duration == 600 && record.randomize_start == -300 && record.randomize_duration == 0);
+    CHECK(record.start_draw == -300 && record.duration_draw == 0 && hadulmir_signed_at(records + 29) == -300);
+    CHECK(record.effective_start == 4700 && record.held == 1 && record.cancelled == 0);
+    CHECK(hadulmir_effective_end(&record) == 5300);
+
+    returned = hadulmir_cancel(image, sizeof image, 7);
+    CHECK(returned == HADULMIR_CANCELLED && hadulmir_response_for(returned) == HADULMIR_CANCELLED);
+    CHECK(hadulmir_cancel(image, sizeof image, 8) == HADULMIR_NOT_HELD && hadulmir_is_refusal(HADULMIR_NOT_HELD));
+    CHECK(hadulmir_response_for(HADULMIR_EVENT_INVALID) == HADULMIR_REJECTED_INVALID);
+    CHECK(hadulmir_response_for(HADULMIR_EVENT_EXPIRED) == HADULMIR_REJECTED_EXPIRED);
+    CHECK(HADULMIR_COMPLETED == 3 && HADULMIR_SUPERSEDED == 7);
+    std::memset(image, 0xFF, sizeof image);
+    CHECK(hadulmir_list(image, sizeof image, records, sizeof records) == HADULMIR_BAD_IMAGE);
+
+    std::printf("header: %u passed, %u failed\n", passed, failed);
+    return failed != 0;
+}
