@@ -1,7 +1,9 @@
 # make run    builds the program `schedule` and runs it on the recorded day
 # make host   builds the archive for C hosts and the example host, and runs it
+# make picture   draws the recorded day and the bench marks T10 and T11
+# make picture LIST=my.frames OUT=my.svg [ARGUMENTS="--from 5000 --to 6000"]   draws another list
 # make test   proves everything, tries every must-fail edit, runs the tests: the gate
-.PHONY: run host test clean
+.PHONY: run host picture test clean
 
 run: build/schedule.log
 	@target/bin/schedule < examples/day.frames
@@ -22,6 +24,22 @@ build/archive.log:
 	@mkdir -p build
 	@echo "proving and building libhadulmir.a; on a new machine this takes some minutes" >&2
 	@rt staticlib hadulmir > $@ 2>&1 || { tail -n 20 $@ >&2; exit 1; }
+
+PICTURE = build/oracle/release/picture
+
+ifdef LIST
+picture: $(PICTURE)
+	@$(PICTURE) $(ARGUMENTS) < $(LIST) > $(OUT)
+else
+picture: $(PICTURE)
+	@$(PICTURE) --title "A recorded day" --names examples/day.names --from 21000 --to 76200 < examples/day.frames > examples/day.svg
+	@$(PICTURE) --title "T10: an event that holds nothing blocks nobody" --names docs/t10.names --from 4998 --to 5032 < docs/t10.frames > docs/t10.svg
+	@$(PICTURE) --title "T11: one control of two is lost, the other stays" --names docs/t11.names --from 4960 --to 5640 < docs/t11.frames > docs/t11.svg
+endif
+
+.PHONY: $(PICTURE)
+$(PICTURE):
+	@cargo build --quiet --release --offline --manifest-path tests/oracle/Cargo.toml --target-dir build/oracle --bin picture
 
 test:
 	tests/run

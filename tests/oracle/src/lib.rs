@@ -15,6 +15,8 @@ pub mod image;
 pub mod pair;
 pub mod program;
 pub mod random;
+pub mod story;
+pub mod svg;
 
 pub use calls::{Answer, Calls, Row};
 pub use event::{Event, Program};
