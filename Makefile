@@ -1,9 +1,10 @@
 # make run    builds the program `schedule` and runs it on the recorded day
 # make host   builds the archive for C hosts and the example host, and runs it
+# make bench     the program, and each C call, beside the independent scheduler, as ratios
 # make picture   draws the recorded day and the bench marks T10 and T11
 # make picture LIST=my.frames OUT=my.svg [ARGUMENTS="--from 5000 --to 6000"]   draws another list
 # make test   proves everything, tries every must-fail edit, runs the tests: the gate
-.PHONY: run host picture test clean
+.PHONY: run host bench picture test clean
 
 run: build/schedule.log
 	@target/bin/schedule < examples/day.frames
@@ -24,6 +25,10 @@ build/archive.log:
 	@mkdir -p build
 	@echo "proving and building libhadulmir.a; on a new machine this takes some minutes" >&2
 	@rt staticlib hadulmir > $@ 2>&1 || { tail -n 20 $@ >&2; exit 1; }
+
+bench: build/schedule.log build/archive.log
+	@HADULMIR_ARCHIVE_DIR=$(CURDIR)/target/staticlib cargo build --quiet --release --offline --manifest-path tests/oracle/Cargo.toml --target-dir build/oracle --features face
+	@build/oracle/release/measure target/bin/schedule build/oracle/release/oracle
 
 PICTURE = build/oracle/release/picture
 

@@ -196,21 +196,27 @@ pub fn profile_names() -> Vec<&'static str> {
 
 /// `None` if there is no such profile.
 pub fn generate(seed: u64, count: usize, profile: &str) -> Option<Vec<u8>> {
-    let choices: Vec<Profile> = PROFILES
+    let choices = choices(profile);
+    let mut generator = Generator::new(seed, *choices.first()?);
+    generator.open();
+    generator.act_until(count, &choices);
+    Some(join(&generator.lines))
+}
+
+/// Lines that go on from a schedule. `None` if there is no such profile.
+pub fn go_on(seed: u64, count: usize, profile: &str, schedule: &Fast) -> Option<Vec<u8>> {
+    let choices = choices(profile);
+    let mut generator = Generator::new(seed, *choices.first()?);
+    generator.schedule = schedule.clone();
+    generator.act_until(count, &choices);
+    Some(join(&generator.lines))
+}
+
+fn choices(profile: &str) -> Vec<Profile> {
+    PROFILES
         .into_iter()
         .filter(|p| p.name == profile || profile == MIXED && p.name != "far")
-        .collect();
-    let first = *choices.first()?;
-    let mut generator = Generator::new(seed, first);
-    generator.open();
-    while generator.lines.len() < count {
-        if generator.dice.chance(1, 40) {
-            generator.profile = generator.dice.pick(&choices);
-        }
-        generator.act();
-    }
-    generator.lines.truncate(count);
-    Some(join(&generator.lines))
+        .collect()
 }
 
 pub fn join(lines: &[Vec<u8>]) -> Vec<u8> {
@@ -263,6 +269,17 @@ impl Generator {
             output: Vec::new(),
             missing,
         }
+    }
+
+    /// Just `count` lines.
+    fn act_until(&mut self, count: usize, choices: &[Profile]) {
+        while self.lines.len() < count {
+            if self.dice.chance(1, 40) {
+                self.profile = self.dice.pick(choices);
+            }
+            self.act();
+        }
+        self.lines.truncate(count);
     }
 
     fn act(&mut self) {

@@ -14,7 +14,10 @@ pub mod history;
 pub mod image;
 pub mod pair;
 pub mod program;
+#[cfg(feature = "face")]
+pub mod proved;
 pub mod random;
+pub mod states;
 pub mod story;
 pub mod svg;
 
