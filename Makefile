@@ -3,8 +3,9 @@
 # make bench     the program, and each C call, beside the independent scheduler, as ratios
 # make picture   draws the recorded day and the bench marks T10 and T11
 # make picture LIST=my.frames OUT=my.svg [ARGUMENTS="--from 5000 --to 6000"]   draws another list
+# make fuzz   lines and images by a coverage-guided fuzzer beside the independent scheduler, ten minutes each; not part of the gate
 # make test   proves everything, tries every must-fail edit, runs the tests: the gate
-.PHONY: run host bench picture test clean
+.PHONY: run host bench fuzz picture test clean
 
 run: build/schedule.log
 	@target/bin/schedule < examples/day.frames
@@ -29,6 +30,11 @@ build/archive.log:
 bench: build/schedule.log build/archive.log
 	@HADULMIR_ARCHIVE_DIR=$(CURDIR)/target/staticlib cargo build --quiet --release --offline --manifest-path tests/oracle/Cargo.toml --target-dir build/oracle --features face
 	@build/oracle/release/measure target/bin/schedule build/oracle/release/oracle
+
+fuzz: build/schedule.log build/archive.log
+	@echo "fuzzing images, then lines, ten minutes each" >&2
+	@tests/fuzz/run images 600
+	@tests/fuzz/run lines 600
 
 PICTURE = build/oracle/release/picture
 

@@ -84,7 +84,7 @@ extern "C" {
 /* The last reading that a clock call accepts. */
 #define HADULMIR_LAST_CLOCK UINT64_C(9000000000)
 
-/* Bytes of stack that do for every call on x86-64. Measured (29,016 for a clock call, the dearest) and rounded up, not proved. */
+/* Bytes of stack that do for every call on x86-64. Measured and rounded up, not proved; docs/HOST.md has what each call takes. */
 #define HADULMIR_STACK_SIZE 32768
 
 /*

@@ -64,7 +64,7 @@ exports() {
 }
 
 needs_little() {
-    nm -u "$archive" | awk '$1 == "U" && $2 != "memcpy" && $2 != "memmove" && $2 != "memset" && $2 != "memcmp" { print; bad = 1 } END { exit bad }'
+    nm -u "$archive" | awk '$1 == "U" && $2 != "memcpy" && $2 != "memset" { print; bad = 1 } END { exit bad }'
 }
 
 no_data() {
@@ -72,7 +72,7 @@ no_data() {
 }
 
 step "the archive has the seven functions and no other" exports
-step "it needs nothing but memcpy, memmove, memset, memcmp" needs_little
+step "it needs nothing but memcpy and memset" needs_little
 step "it has no writable data" no_data
 
 # --- the header
@@ -139,7 +139,19 @@ awk -F '\t' '{ n = split($1, part, ":"); printf "    %-26s %6d\n", part[n], $2 }
 step "stack.c builds" $c99 -O2 tests/c/stack.c "$archive" -o "$out/stack"
 step "no call takes more stack than the header says" "$out/stack"
 echo "c: stack of the archive's functions, as painted"
-sed 's/^/    /' "$out/log"
+sed 's/^/    /' "$out/log" | tee "$out/painted"
+# said WHAT: the figure at the end of the row of docs/HOST.md that has WHAT; a stack may differ by 512 bytes, since the C library's part of it may
+said() { grep -F "$1" docs/HOST.md | sed -n 's/.* \([0-9,]*\) |$/\1/p' | tr -d , | tail -n 1; }
+figures() {
+    while read -r call bytes _; do
+        case $call in
+        hadulmir_*) off=$(($(said "\`$call\`") - bytes)) && [ "${off#-}" -le 512 ] || { echo "$call takes $bytes"; return 1; } ;;
+        esac
+    done <"$out/painted"
+    code=$(sed -n '$s/^ *\([0-9]*\).*/\1/p' "$out/size")
+    [ "$(said '| code, all')" = "$code" ] || { echo "the code takes $code"; return 1; }
+}
+step "docs/HOST.md has these figures" figures
 
 echo "c: $face"
 echo "c: $passed passed, $failed failed"

@@ -161,30 +161,34 @@ static struct op cancel(uint64_t id)
     return op;
 }
 
+/* A call that is lent a buffer. */
+static struct op lending(enum kind kind, size_t room)
+{
+    struct op op = blank_op(kind);
+
+    op.room = room;
+    return op;
+}
+
 static struct op set_clock(uint64_t reading, size_t room)
 {
-    struct op op = blank_op(CLOCK);
+    struct op op = lending(CLOCK, room);
 
     op.id = reading;
-    op.room = room;
     return op;
 }
 
 static struct op ask(uint8_t control, size_t room)
 {
-    struct op op = blank_op(ASK);
+    struct op op = lending(ASK, room);
 
     op.number = control;
-    op.room = room;
     return op;
 }
 
 static struct op list(size_t room)
 {
-    struct op op = blank_op(LIST);
-
-    op.room = room;
-    return op;
+    return lending(LIST, room);
 }
 
 static int32_t act(uint8_t *image, size_t len, const struct op *op, uint8_t *lent)

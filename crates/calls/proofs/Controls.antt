@@ -1,20 +1,20 @@
--- One control: cut from a mask, and looked for at a place and in the union of the places.
+-- One control: cut from a mask, and looked for at a place, in the union of the places, and at two places.
 use mathlib.Core.Path.{_≡_, refl, ap, _∙_}
-use Prim.Native.Nat.{ℕ, suc, _+_, _-_, _*_, _%_, _^_, _<_}
+use Prim.Native.Nat.{ℕ, suc, _+_, _-_, _*_, _/_, _%_, _^_, _<_}
 use native.Mathlib.Nat.{one-mul, pow-suc, div-eq-of-lt}
 use native.Mathlib.Omega.{arith}
 use mathlib.Core.Bool.{Bool, true, false, and-true, and-false, or-true}
 use mathlib.Core.List.{List}
 use lib.ListN.{length, getD, List·getD-eq-default}
 use lib.Pow.{pow-add, pow-lt, shl-shr}
-use lib.Bits.{bitOr}
+use lib.Bits.{bitAnd, bitOr, and-shr, and-mod}
 use lib.Dec.{ltb}
-use borrow.Author.Tests.{ltb-true, ltb-false, ne-eqb}
+use borrow.Author.Tests.{eqb-true, ltb-true, ltb-false, ne-eqb}
 use borrow.Author.Count.{below-more}
 use Rattle.rules.specs.Records.{has, cut, join}
 use Rattle.rules.proofs.Tests.{both}
 use Rattle.rules.proofs.Masks.{has-cut, has-join, has-none, cut-apart}
-use Rattle.calls.specs.Settled.{HasAt, Covers}
+use Rattle.calls.specs.Settled.{HasAt, Contested}
 
 -- what is too small for a control has it not
 pub has-above : (m k : ℕ) → m < 2 ^ k → has m k ≡ false
@@ -39,6 +39,10 @@ has-only c k e = go (ltb c k) (ltb k c) refl refl
         both (has (2 ^ c) k) e (ap (λ x. has (2 ^ x) k) (omega arith) ∙ has-below (c - k - 1) k)
     go false false p q = omega (arith, ltb-false c k p, ltb-false k c q)
 
+has-and : (a b c : ℕ) → has a c ≡ true → has b c ≡ true → has (bitAnd a b) c ≡ true
+unfolding has
+has-and a b c p q = rw (and-shr a b c, and-mod (a / 2 ^ c) (b / 2 ^ c) 1, eqb-true (a / 2 ^ c % 2) 1 p, eqb-true (b / 2 ^ c % 2) 1 q)
+
 pub cut-same : (m c : ℕ) → has (cut m (2 ^ c)) c ≡ false
 cut-same m c = rw (has-cut, has-self, and-false)
 
@@ -52,7 +56,7 @@ cut-other m c k d = rw (has-cut, none (has (2 ^ c) k) refl, and-true)
 pub cut-not : (m c : ℕ) → has m c ≡ false → cut m (2 ^ c) ≡ m
 cut-not m c e = cut-apart m (2 ^ c) (λ k p q. both (has m c) (rw (has-only c k q) at p) e)
 
--- Places and their union.
+-- Places: the controls of any, and those of two.
 
 -- a place that has a control is there
 pub has-long : (ms : List ℕ) (i k : ℕ) → HasAt ms i k → i < length ms
@@ -62,7 +66,15 @@ has-long ms i k h = go (ltb i (length ms)) refl
     go true p = ltb-true i (length ms) p
     go false p = both _ h (rw (List·getD-eq-default ms 0 {n = i} (ltb-false i (length ms) p)) (has-none k))
 
-pub covers-more : (ms : List ℕ) (i all : ℕ) → Covers ms i all → Covers ms (i + 1) (bitOr all (getD ms i 0))
+-- each control of the first n places is in the mask m
+abbrev pub Covers : List ℕ → ℕ → ℕ → Type 0
+Covers ms n m = (i : ℕ) → i < n → (k : ℕ) → HasAt ms i k → has m k ≡ true
+
+pub covers-more : (ms : List ℕ) (i seen : ℕ) → Covers ms i seen → Covers ms (i + 1) (bitOr seen (getD ms i 0))
 unfolding join
-covers-more ms i all h =
-    below-more _ i (λ j l k e. rw (has-join, h j l k e)) (λ k e. rw (has-join, e, or-true))
+covers-more ms i seen h = below-more _ i (λ j l k e. rw (has-join, h j l k e)) (λ k e. rw (has-join, e, or-true))
+
+pub contested-more : (ms : List ℕ) (i seen twice : ℕ) → Covers ms i seen → Contested ms i twice → Contested ms (i + 1) (bitOr twice (bitAnd seen (getD ms i 0)))
+unfolding join
+contested-more ms i seen twice s h =
+    below-more _ i (λ j l o p k e f. rw (has-join, h j l o p k e f)) (λ o p k e f. rw (has-join, has-and seen (getD ms i 0) k (s o p k f) e, or-true))

@@ -18,7 +18,6 @@ pub mod Shifts
 pub mod Stored
 pub mod Adding
 pub mod Asking
-pub mod Copying
 pub mod Framed
 pub mod Ends
 pub mod Running

@@ -42,9 +42,9 @@ betterAt ps cs is i j = better (rankAt ps cs is i) (rankAt ps cs is j)
 abbrev pub HasAt : List ℕ → ℕ → ℕ → Type 0
 HasAt ms i k = has (getD ms i 0) k ≡ true
 
--- each control of the first n places is in the mask m
-abbrev pub Covers : List ℕ → ℕ → ℕ → Type 0
-Covers ms n m = (i : ℕ) → i < n → (k : ℕ) → HasAt ms i k → has m k ≡ true
+-- each control that two of the first n places have is in the mask m
+abbrev pub Contested : List ℕ → ℕ → ℕ → Type 0
+Contested ms n m = (i : ℕ) → i < n → (o : ℕ) → o < i → (k : ℕ) → HasAt ms i k → HasAt ms o k → has m k ≡ true
 
 -- of the first n places none that has control k is better than i
 abbrev pub Unbeaten : (ℕ → Rank) → ℕ → List ℕ → ℕ → ℕ → Type 0

@@ -1,10 +1,7 @@
 // Setting the clock, on a sound schedule: the rows go into the lent buffer once it is known that they fit.
 ghost use mathlib.Core.Path.{_≡_};
-ghost use Prim.Native.Nat.{_*_, _≤_};
 ghost use mathlib.Core.Bool.{true};
 ghost use mathlib.Core.List.{[]};
-ghost use lib.ListN.{length, take};
-ghost use Rattle.rules.specs.Lists.{over};
 ghost use Rattle.rules.specs.Sound.{sound};
 ghost use Rattle.rules.specs.Calls.{call, setClock};
 ghost use Rattle.calls.specs.Answered.{outcomeOf};
@@ -12,18 +9,6 @@ use crate::Answered;
 use crate::advance;
 use rules::Answer;
 use rules::Schedule;
-
-// The first n bytes over the front of the buffer.
-fn copy(buffer: &mut [u8], rows: &[u8; 1632], n: usize)
-    requires { ⌜ (n ≤ length (now buffer)) × (n ≤ 1632) × (length (now rows) ≡ 1632) ⌝ }
-    ensures { λ _. ⌜ now (buffer .exit) ≡ over (take n (now (rows .entry))) (now (buffer .entry)) ⌝ }
-{
-    let mut i = 0;
-    while i < n {
-        buffer[i] = rows[i];
-        i += 1;
-    }
-}
 
 pub(crate) fn set_clock(s: Schedule, reading: u64, buffer: &mut [u8]) -> Answered
     requires { ⌜ sound s ≡ true ⌝ }
@@ -50,7 +35,7 @@ pub(crate) fn set_clock(s: Schedule, reading: u64, buffer: &mut [u8]) -> Answere
             schedule: s,
         };
     }
-    copy(buffer, &rows, 17 * n);
+    octets::copy(buffer, &rows, 17 * n);
     let schedule = passed.schedule;
     Answered {
         answer: Answer::Count(n),

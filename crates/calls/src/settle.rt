@@ -5,7 +5,7 @@ ghost use lib.ListN.{length, take, getD, set};
 ghost use Rattle.rules.specs.Lists.{Pairwise};
 ghost use Rattle.rules.specs.Records.{has, cut};
 ghost use Rattle.rules.specs.Holding.{better};
-ghost use Rattle.calls.specs.Settled.{claimants, settled, rankAt, betterAt, Covers, Decided};
+ghost use Rattle.calls.specs.Settled.{claimants, settled, rankAt, betterAt, Contested, Decided};
 
 // Of two events the better.
 pub(crate) fn is_better(p: u8, q: u8, made: u32, other: u32, id: u64, rival: u64) -> bool
@@ -60,18 +60,21 @@ fn take_away(masks: &mut [u32; 48], i: usize, c: u32)
     masks[i] = m ^ (m & (1 << c));
 }
 
-// The controls of the first n claims.
-fn union(claims: &[u32; 48], n: usize) -> u32
+// The controls that two or more of the first n claim.
+fn contested(claims: &[u32; 48], n: usize) -> u32
     requires { ⌜ n ≤ 48 ⌝ }
-    ensures { λ r. ⌜ Covers (now (claims .entry)) n r ⌝ }
+    ensures { λ r. ⌜ Contested (now (claims .entry)) n r ⌝ }
 {
-    let mut all = 0;
+    let mut seen = 0;
+    let mut twice = 0;
     let mut i = 0;
     while i < n {
-        all |= claims[i];
+        let m = claims[i];
+        twice |= seen & m;
+        seen |= m;
         i += 1;
     }
-    all
+    twice
 }
 
 // Leaves control c to the best of those that claim it.
@@ -106,7 +109,7 @@ fn decide(
     }
 }
 
-// What each of the first n events keeps of its claim.
+// What each of the first n events keeps of its claim. Only a contested control needs a decision.
 pub(crate) fn settle(
     claims: &[u32; 48],
     primacies: &[u8; 48],
@@ -122,11 +125,14 @@ pub(crate) fn settle(
     requires { ⌜ Pairwise _<_ (take n (now ids)) ⌝ }
     ensures { λ r. ⌜ take n r ≡ settled (claimants (take n (now (claims .entry))) (take n (now (primacies .entry))) (take n (now (created .entry))) (take n (now (ids .entry)))) ⌝ }
 {
-    let all = union(claims, n);
+    let open = contested(claims, n);
     let mut masks = *claims;
+    if open == 0 {
+        return masks;
+    }
     let mut c: u32 = 0;
     while c < 32 {
-        if is_in(all, c) {
+        if is_in(open, c) {
             decide(&mut masks, primacies, created, ids, n, c);
         }
         c += 1;

@@ -1,15 +1,15 @@
 -- What the functions under the decoder promise: a kind's size, its frame from the bytes, and the pairs of a line as bytes.
 use mathlib.Core.Path.{_≡_}
-use Prim.Native.Nat.{ℕ}
+use Prim.Native.Nat.{ℕ, _<_}
 use mathlib.Core.Bool.{Bool, true, cond, _&&_}
 use mathlib.Core.List.{List}
-use lib.Dec.{leb, eqb}
-use lib.ListN.{length, take}
+use lib.Dec.{leb, ltb, eqb}
+use lib.ListN.{length, take, getD}
 use Rattle.rules.specs.declared.Line.{Line}
 use Rattle.rules.specs.declared.Line.the-variants.{Good, Bad}
 use Rattle.rules.specs.declared.Frame.the-variants as frame
 use Rattle.rules.specs.Bytes.{read, idAt, eventAt}
-use Rattle.rules.specs.Frames.{paired, unhex}
+use Rattle.rules.specs.Frames.{digit, paired, unhex}
 
 -- Frames and image, how many bytes a frame of a kind has, 0 for a number that is no kind
 unfoldable pub sizeOf : ℕ → ℕ
@@ -24,6 +24,14 @@ frameAs kind b =
     (cond (eqb kind 4) (Good (frame.Program (read 1 1 b) (read 1 2 b) (read 4 3 b)))
     (cond (eqb kind 5) (Good (frame.Ask (read 1 1 b)))
     Bad))))
+
+-- what a byte stands for as a digit, 256 where it is none, so that a pair with such a byte is above 255
+unfoldable pub worth : ℕ → ℕ
+worth c = cond (ltb (digit c) 16) (digit c) 256
+
+-- a list that has this for each byte
+pub record Table (t : List ℕ) : Type 0 where
+  pub at : (c : ℕ) → c < 256 → getD t c 0 ≡ worth c
 
 -- whether the n pairs of a line are digits, and if so their bytes, at the front of the array
 pub record Unhexed (l : List ℕ) (n : ℕ) (good : Bool) (b : List ℕ) : Type 0 where

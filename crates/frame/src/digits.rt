@@ -5,7 +5,7 @@ ghost use lib.ListN.{length, getD};
 ghost use Rattle.rules.specs.Lists.{overAt};
 ghost use Rattle.rules.specs.Bytes.{big};
 ghost use Rattle.rules.specs.Frames.{digit, unhex};
-ghost use Rattle.frame.specs.Decoded.{Unhexed};
+ghost use Rattle.frame.specs.Decoded.{worth, Table, Unhexed};
 ghost use Rattle.frame.specs.Encoded.{hex, hexed};
 
 // What a digit stands for, 16 for any other byte.
@@ -29,22 +29,53 @@ pub(crate) fn first(line: &[u8]) -> u16
     16 * nibble(line[0]) as u16 + nibble(line[1]) as u16
 }
 
-// The bytes of a line of n pairs, in one pass that stops at the first byte that is no digit; whether there is no such byte.
+// What each byte stands for as a digit, 256 where it is none: '0' to '9' are the bytes from 48 on, 'A' to 'F' those from 65 on.
+fn table() -> [u16; 256]
+    ensures { λ r. ⌜ Table r ⌝ }
+{
+    let mut values = [256u16; 256];
+    values[48] = 0;
+    values[49] = 1;
+    values[50] = 2;
+    values[51] = 3;
+    values[52] = 4;
+    values[53] = 5;
+    values[54] = 6;
+    values[55] = 7;
+    values[56] = 8;
+    values[57] = 9;
+    values[65] = 10;
+    values[66] = 11;
+    values[67] = 12;
+    values[68] = 13;
+    values[69] = 14;
+    values[70] = 15;
+    values
+}
+
+// What one byte stands for.
+fn value(values: &[u16; 256], c: u8) -> u16
+    requires { ⌜ Table (now values) ⌝ }
+    ensures { λ r. ⌜ r ≡ worth c ⌝ }
+{
+    values[c as usize]
+}
+
+// The bytes of a line of n pairs, in one pass that stops at the first pair with a byte that is no digit; whether there is no such byte.
 pub(crate) fn read_pairs(line: &[u8], n: usize, bytes: &mut [u8; 34]) -> bool
     requires { ⌜ (n ≤ 34) × (length (now line) ≡ 2 * n) × (length (now bytes) ≡ 34) ⌝ }
     ensures { λ r. ⌜ Unhexed (now (line .entry)) n r (now (bytes .exit)) ⌝ }
 {
+    let values = table();
     let mut i = 0;
     while i < n {
-        let high = nibble(line[2 * i]);
-        let low = nibble(line[2 * i + 1]);
-        if 15 < high {
+        let high = value(&values, line[2 * i]);
+        let low = value(&values, line[2 * i + 1]);
+        let pair = 16 * high + low;
+        if 255 < pair {
             return false;
         }
-        if 15 < low {
-            return false;
-        }
-        bytes[i] = 16 * high + low;
+        bytes[i] = pair as u8;
         i += 1;
     }
     true

@@ -2,7 +2,7 @@
 use mathlib.Core.Path.{_≡_, refl, sym, ap, _∙_}
 use Prim.Native.Nat.{ℕ, _≤_}
 use mathlib.Core.Bool.{Bool, true, false, cond, not}
-use mathlib.Core.List.{List}
+use mathlib.Core.List.{List, []}
 use borrow.Author.Tests.{eqb-true, eqb-false, not-true, not-false}
 use lib.Dec.{eqb}
 use lib.ListN.{length}
@@ -137,3 +137,13 @@ stored {l} f op lent a {after} {records} q fits kept whole p =
         let number = ap (λ (o : Outcome). o .number) q in
         let same = ap (λ (o : Outcome). o .bytes) q ∙ call-clauses .unchanged _ (asCall op lent) (λ z. eqb-false (numberOf (a .answer)) 0 h (number ∙ z)) .1 ∙ whole in
         rw same
+
+-- An operation that is lent nothing, from what the read found: its call asks no more of the store, and the store leaves what the face shows.
+module _ (l : List ℕ) {b : Loaded} (e : b ≡ readOf l) (f : not (b .formed) ≡ false) (a : Answered) where
+  pub may-store : (c : Call) → outcomeOf a [] [] ≡ call (b .schedule) c → (counted (valueOf (a .answer)) ≤ 96) × (length l ≡ imageSize)
+  may-store = small (formed-as l e f) a
+
+  pub stored-alone : (op : Operation) → outcomeOf a [] [] ≡ call (b .schedule) (asCall op [])
+      → ((v : Value) → idTooLong op v 0 ≡ false) → lentAfter op (outcomeOf a [] []) [] ≡ [] → lentBytes (asCall op []) ≡ []
+      → {r : ℕ} {m : List ℕ} → (r, m) ≡ finished a l → faceOf r m [] ≡ face l op []
+  stored-alone op = stored (formed-as l e f) op [] a

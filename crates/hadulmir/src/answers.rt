@@ -3,25 +3,11 @@ ghost use mathlib.Core.Path.{_≡_};
 ghost use Prim.Native.Nat.{_<_, _≤_};
 ghost use lib.ListN.{length};
 ghost use Rattle.rules.specs.Image.{imageSize};
-ghost use Rattle.rules.specs.Calls.{numberOf, valueOf, counted};
+ghost use Rattle.rules.specs.Calls.{valueOf, counted};
 ghost use Rattle.rules.specs.Face.{shown, negative};
 ghost use Rattle.hadulmir.specs.Outcomes.{returnedFor, finished};
 use calls::Answered;
 use rules::Answer;
-
-// The number of a refusal, 0 of any other answer.
-fn number_of(answer: Answer) -> u8
-    ensures { λ r. ⌜ r ≡ numberOf answer ⌝ }
-{
-    match answer {
-        Answer::Refused(n) => n,
-        Answer::Code(_) => 0,
-        Answer::Count(_) => 0,
-        Answer::Holder(_) => 0,
-        Answer::Default(_) => 0,
-        Answer::Nobody => 0,
-    }
-}
 
 // An answer that is no refusal as one number.
 fn shown(answer: Answer) -> u32
@@ -51,7 +37,7 @@ pub(crate) fn returned(answer: Answer) -> u32
     requires { ⌜ counted (valueOf answer) ≤ 96 ⌝ }
     ensures { λ r. ⌜ r ≡ returnedFor answer ⌝ }
 {
-    let n = number_of(answer);
+    let n = answer.number();
     if n == 0 {
         return shown(answer);
     }
@@ -64,7 +50,7 @@ pub(crate) fn finish(a: Answered, image: &mut [u8]) -> u32
     ensures { λ r. ⌜ (r, now (image .exit)) ≡ finished a (now (image .entry)) ⌝ }
 {
     let answer = a.answer;
-    if number_of(answer) != 0 {
+    if answer.number() != 0 {
         return returned(answer);
     }
     let schedule = a.schedule;

@@ -6,7 +6,6 @@ ghost use Rattle.rules.specs.Face.{addsProgram, delivers, cancels, setsClock, a
 ghost use Rattle.hadulmir.specs.Outcomes.{loadOutcome, storeOutcome, faceOf, eventOf};
 
 mod answers;
-mod copying;
 
 use rules::Answer;
 use rules::Event;
@@ -188,6 +187,6 @@ pub extern "C" fn hadulmir_list(image: &[u8], records: &mut [u8]) -> u32
     if records.len() / 46 < n {
         return answers::negative(13);
     }
-    copying::copy(records, &image[57..], 46 * n);
+    octets::copy(records, &image[57..], 46 * n);
     n as u32
 }

@@ -59,18 +59,15 @@ fn read_clock(s: Schedule, reading: u64) -> Schedule {
 
 // Id, program, controls, creation time, start, duration; nothing drawn.
 fn event(id: u64, program: u8, controls: u32, created: u32, start: u32, duration: u32) -> Event {
-    Event {
-        id: Id { value: id },
-        program,
-        controls,
-        created,
-        start,
-        duration,
-        randomize_start: 0,
-        randomize_duration: 0,
-        start_draw: 0,
-        duration_draw: 0,
-    }
+    let mut e = Event::none();
+    let handle = Id { value: id };
+    e.id = handle;
+    e.program = program;
+    e.controls = controls;
+    e.created = created;
+    e.start = start;
+    e.duration = duration;
+    e
 }
 
 fn title(text: &[u8]) {

@@ -1,16 +1,18 @@
--- A number whose bytes are all there is read and written; any other is not. What is read fits.
-use mathlib.Core.Path.{_≡_}
+-- A number whose bytes are all there is read and written, and bytes that are all there are copied; any others are not. What is read fits.
+use mathlib.Core.Path.{_≡_, refl}
 use Prim.Native.Nat.{ℕ, _+_, _^_, _<_, _≤_}
-use mathlib.Core.Bool.{and-false}
+use mathlib.Core.Bool.{Bool, true, false, cond, _&&_, and-false}
 use mathlib.Core.List.{List}
 use native.Mathlib.Omega.{arith}
 use native.Mathlib.Nat.{pow-le-pow-right}
-use borrow.Author.Tests.{le-leb, lt-leb}
-use lib.ListN.{length}
-use Rattle.rules.specs.Lists.{overAt}
+use borrow.Author.Tests.{le-leb, lt-leb, leb-true}
+use lib.Dec.{leb}
+use lib.ListN.{length, take}
+use Rattle.rules.specs.Lists.{over, overAt}
 use Rattle.rules.specs.Bytes.{big, read}
 use Rattle.rules.proofs.Numbers.{Bytes, read-below}
-use Rattle.octets.specs.Octets.{getAt, putAt}
+use Rattle.rules.proofs.Copying.{over-length}
+use Rattle.octets.specs.Octets.{getAt, putAt, copied}
 
 module _ (n at : ℕ) (l : List ℕ) where
   pub get-inside : n ≤ 8 → at + n ≤ length l → getAt n at l ≡ read n at l
@@ -28,6 +30,28 @@ module _ (n at : ℕ) (l : List ℕ) where
   pub put-outside : (x : ℕ) → length l < at + n → putAt n at x l ≡ l
   unfolding putAt
   put-outside x h = rw (lt-leb (at + n) (length l) h)
+
+module _ (n : ℕ) (from to : List ℕ) where
+  pub copy-inside : n ≤ length from → n ≤ length to → copied n from to ≡ over (take n from) to
+  unfolding copied
+  copy-inside g h = rw (le-leb n (length from) g, le-leb n (length to) h)
+
+  pub copy-short : length from < n → copied n from to ≡ to
+  unfolding copied
+  copy-short h = rw (lt-leb n (length from) h)
+
+  pub copy-outside : length to < n → copied n from to ≡ to
+  unfolding copied
+  copy-outside h = rw (lt-leb n (length to) h, and-false)
+
+  pub copy-size : length (copied n from to) ≡ length to
+  unfolding copied
+  copy-size = by (leb n (length from)) (leb n (length to)) refl refl
+    where
+      by : (s t : Bool) → leb n (length from) ≡ s → leb n (length to) ≡ t → length (cond (s && t) (over (take n from) to) to) ≡ length to
+      by true true g h = over-length to from n (leb-true _ _ h) (leb-true _ _ g)
+      by true false g h = refl
+      by false t g h = refl
 
 module _ (l : List ℕ) (b : Bytes l) where
   -- a number of fewer than 8 bytes has room for one more

@@ -1,6 +1,6 @@
-// Numbers as bytes in a slice, the most significant first. Each function takes every place and every width.
+// Bytes in a slice: numbers, the most significant byte first, and copies. Each function takes every place and every width.
 ghost use mathlib.Core.Path.{_≡_};
-ghost use Rattle.octets.specs.Octets.{getAt, putAt};
+ghost use Rattle.octets.specs.Octets.{getAt, putAt, copied};
 
 // The number in the n bytes from `at`; 0 if they are more than 8 or not all there.
 pub fn get(b: &[u8], at: usize, n: usize) -> u64
@@ -41,5 +41,22 @@ pub fn put(b: &mut [u8], at: usize, n: usize, x: u64)
         i -= 1;
         b[at + i] = (rest % 256) as u8;
         rest /= 256;
+    }
+}
+
+// Copies the first n bytes of `from` over the front of `to`; leaves `to` alone if either has fewer.
+pub fn copy(to: &mut [u8], from: &[u8], n: usize)
+    ensures { λ _. ⌜ now (to .exit) ≡ copied n (now (from .entry)) (now (to .entry)) ⌝ }
+{
+    if from.len() < n {
+        return;
+    }
+    if to.len() < n {
+        return;
+    }
+    let mut i = 0;
+    while i < n {
+        to[i] = from[i];
+        i += 1;
     }
 }

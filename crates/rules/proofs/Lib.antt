@@ -2,6 +2,7 @@
 pub mod Tests
 pub mod ListLaws
 pub mod Over
+pub mod Copying
 pub mod Masks
 pub mod Claims
 pub mod Local

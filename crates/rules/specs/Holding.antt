@@ -36,7 +36,7 @@ claim t h =
     cond (h .cancelled || leb (endOf h) t || ltb t (h .begins)) 0
     (cond (eqb (h .begins) t) (h .event .controls) (h .held))
 
--- what better events claim at moment t. The best of the claimants holds, so this is what better events hold (law `HeldUnlessBetter`).
+-- what better events claim at moment t. The best of the claimants holds, so this is what better events hold (law `blocks-nobody`: one that holds nothing takes nothing).
 unfoldable pub taken : List Program → ℕ → List Entry → Entry → ℕ
 taken ps t [] h = 0
 taken ps t (o ∷ os) h = join (cond (better (rankOf ps (o .event)) (rankOf ps (h .event))) (claim t o) 0) (taken ps t os h)

@@ -1,9 +1,11 @@
-// Events by value: times worked out, fields checked.
+// What is read off a record by value: an event's times and whether its fields are in range, an answer's number and count.
 ghost use mathlib.Core.Path.{_≡_};
 ghost use Prim.Native.Nat.{_+_, _<_, _^_, min, max};
 ghost use Rattle.rules.specs.Records.{primacyIs, lastClock};
 ghost use Rattle.rules.specs.Period.{lift, plus, drawnStart, effectiveEnd, periodOf, dated};
 ghost use Rattle.rules.specs.Sound.{outside, drawn, outOfRange, malformed, sameEvent};
+ghost use Rattle.rules.specs.Calls.{numberOf, valueOf, counted};
+use crate::Answer;
 use crate::Dated;
 use crate::Event;
 use crate::Period;
@@ -144,6 +146,36 @@ impl Event {
         Period {
             start: later(start.time, clock + 1),
             end: end.time,
+        }
+    }
+}
+
+impl Answer {
+    // The number of a refusal, 0 of any other answer.
+    pub fn number(self) -> u8
+        ensures { λ r. ⌜ r ≡ numberOf self ⌝ }
+    {
+        match self {
+            Answer::Refused(n) => n,
+            Answer::Code(_) => 0,
+            Answer::Count(_) => 0,
+            Answer::Holder(_) => 0,
+            Answer::Default(_) => 0,
+            Answer::Nobody => 0,
+        }
+    }
+
+    // How much an answer counts, 0 if it counts nothing.
+    pub fn count(self) -> usize
+        ensures { λ r. ⌜ r ≡ counted (valueOf self) ⌝ }
+    {
+        match self {
+            Answer::Count(n) => n,
+            Answer::Refused(_) => 0,
+            Answer::Code(_) => 0,
+            Answer::Holder(_) => 0,
+            Answer::Default(_) => 0,
+            Answer::Nobody => 0,
         }
     }
 }

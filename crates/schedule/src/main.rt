@@ -6,12 +6,10 @@ ghost use mathlib.Core.Bool.{true};
 ghost use mathlib.Core.List.{[]};
 ghost use lib.ListN.{length, take, drop};
 ghost use Rattle.rules.specs.Sound.{sound};
-ghost use Rattle.rules.specs.Calls.{valueOf, counted};
 ghost use Rattle.calls.specs.Lines.{endedOf};
 ghost use Rattle.text.specs.Texts.{mostText};
 use libc::STDIN_FILENO;
 use libc::STDOUT_FILENO;
-use rules::Answer;
 use rules::Schedule;
 
 // A line of more bytes than this is no frame, whatever follows.
@@ -22,20 +20,6 @@ struct Piece {
     schedule: Schedule,
     read: usize,
     written: bool,
-}
-
-// How many bytes a run wrote. It has no refusal here, since the schedule is sound.
-fn count_of(answer: Answer) -> usize
-    ensures { λ r. ⌜ r ≡ counted (valueOf answer) ⌝ }
-{
-    match answer {
-        Answer::Count(n) => n,
-        Answer::Refused(_) => 0,
-        Answer::Code(_) => 0,
-        Answer::Holder(_) => 0,
-        Answer::Default(_) => 0,
-        Answer::Nobody => 0,
-    }
 }
 
 // Runs over all lines that end in a piece, and writes their texts.
@@ -49,7 +33,8 @@ fn print_lines(mut s: Schedule, piece: &[u8], out: &mut [u8]) -> Piece
         let next = ran.schedule;
         s = next;
         let answer = ran.answer;
-        let n = count_of(answer);
+        // No refusal, since the schedule is sound: how many bytes the run wrote.
+        let n = answer.count();
         if !io::write_all(STDOUT_FILENO, &out[..n]) {
             return Piece {
                 schedule: s,

@@ -1,2 +1,3 @@
 -- What belongs to no one function.
 pub mod Printing
+pub mod Digits

@@ -1,6 +1,6 @@
 -- Texts written into a buffer, one behind the other.
 use mathlib.Core.Path.{_≡_}
-use Prim.Native.Nat.{ℕ, _+_}
+use Prim.Native.Nat.{ℕ, _+_, _*_, _^_, _≤_, _<_}
 use mathlib.Core.Bool.{cond}
 use mathlib.Core.List.{List, []}
 use lib.Dec.{leb}
@@ -13,6 +13,11 @@ use Rattle.rules.specs.Printed.{threeText}
 pub record Stands (old : List ℕ) (at : ℕ) (text new : List ℕ) (behind : ℕ) : Type 0 where
   pub end : behind ≡ at + length text
   pub is : new ≡ overAt at text old
+
+-- a number that is not 0 has n decimal digits, none of them a zero in front
+pub record HasDigits (n x : ℕ) : Type 0 where
+  pub below : x < 10 ^ n
+  pub from : 10 ^ n ≤ 10 * x
 
 -- no line's text is longer: 96 rows of three numbers of at most 20 digits
 abbrev pub mostText : ℕ

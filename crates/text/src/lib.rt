@@ -60,7 +60,7 @@ pub fn told(out: &mut [u8], at: usize, clock: u64, f: Frame, answer: Answer, row
     if rows.len() != 1632 {
         return at;
     }
-    if 96 < writing::count_of(answer) {
+    if 96 < answer.count() {
         return at;
     }
     if !has_room(out.len(), at, MOST) {

@@ -2,31 +2,59 @@
 ghost use mathlib.Core.Path.{_≡_};
 ghost use mathlib.Core.Bool.{cond};
 ghost use mathlib.Core.List.{[], _∷_, _++_};
-ghost use Prim.Native.Nat.{_+_, _*_, _≤_};
+ghost use Prim.Native.Nat.{_+_, _*_, _≤_, _<_};
 ghost use lib.Dec.{eqb};
 ghost use lib.ListN.{length};
+ghost use Rattle.rules.specs.Lists.{overAt};
 ghost use Rattle.rules.specs.Calls.{Outcome, numberOf, valueOf, counted};
 ghost use Rattle.rules.specs.Printed.{decimal, digits, space, refusedText, threeText, codeText, rowsText, askText, frameText};
-ghost use Rattle.text.specs.Texts.{Stands, mostText, rowText};
+ghost use Rattle.text.specs.Texts.{HasDigits, Stands, mostText, rowText};
 use rules::Answer;
 use rules::Frame;
 use rules::Id;
 
-// The last n decimal digits of a number, no zero in front: first all before the last one, as the definition says. It calls itself at most n times deep.
-fn decimal(out: &mut [u8], at: usize, n: usize, x: u64) -> usize
-    requires { ⌜ at + n ≤ length (now out) ⌝ }
-    ensures { λ r. ⌜ Stands (now (out .entry)) at (decimal n x) (now (out .exit)) r ⌝ }
+// How many decimal digits a number that is not 0 has: one more for each power of ten that is not above it.
+fn length_of(x: u64) -> usize
+    requires { ⌜ 0 < x ⌝ }
+    ensures { λ r. ⌜ HasDigits r x ⌝ }
 {
-    if n == 0 {
-        return at;
+    let front = x / 10;
+    let mut limit: u64 = 1;
+    let mut n = 1;
+    while limit <= front {
+        limit *= 10;
+        n += 1;
     }
+    n
+}
+
+// The n digits of a number, from the last to the first.
+fn put_digits(out: &mut [u8], at: usize, n: usize, x: u64)
+    requires { ⌜ HasDigits n x × (at + n ≤ length (now out)) ⌝ }
+    ensures { λ _. ⌜ now (out .exit) ≡ overAt at (decimal n x) (now (out .entry)) ⌝ }
+{
+    let mut rest = x;
+    let mut i = n;
+    while 9 < rest {
+        i -= 1;
+        out[at + i] = b'0' + (rest % 10) as u8;
+        rest /= 10;
+    }
+    out[at] = b'0' + rest as u8;
+}
+
+// A number in decimal digits, no zero in front.
+fn decimal(out: &mut [u8], at: usize, x: u64) -> usize
+    requires { ⌜ at + 20 ≤ length (now out) ⌝ }
+    ensures { λ r. ⌜ Stands (now (out .entry)) at (digits x) (now (out .exit)) r ⌝ }
+{
     if x < 10 {
         out[at] = b'0' + x as u8;
         return at + 1;
     }
-    let last = decimal(out, at, n - 1, x / 10);
-    out[last] = b'0' + (x % 10) as u8;
-    last + 1
+    let n = length_of(x);
+    put_digits(out, at, n, x);
+    at + n
 }
 
 // A number and the byte behind it.
@@ -34,7 +62,7 @@ fn number(out: &mut [u8], at: usize, x: u64, behind: u8) -> usize
     requires { ⌜ at + 21 ≤ length (now out) ⌝ }
     ensures { λ r. ⌜ Stands (now (out .entry)) at (digits x ++ (behind ∷ [])) (now (out .exit)) r ⌝ }
 {
-    let end = decimal(out, at, 20, x);
+    let end = decimal(out, at, x);
     out[end] = behind;
     end + 1
 }
@@ -115,34 +143,6 @@ fn ask_text(out: &mut [u8], at: usize, control: u8, answer: Answer) -> usize
     }
 }
 
-// The number of a refusal, 0 for an answer that is none.
-fn number_of(answer: Answer) -> u8
-    ensures { λ r. ⌜ r ≡ numberOf answer ⌝ }
-{
-    match answer {
-        Answer::Refused(n) => n,
-        Answer::Code(_) => 0,
-        Answer::Count(_) => 0,
-        Answer::Holder(_) => 0,
-        Answer::Default(_) => 0,
-        Answer::Nobody => 0,
-    }
-}
-
-// How many rows an answer counts.
-pub(crate) fn count_of(answer: Answer) -> usize
-    ensures { λ r. ⌜ r ≡ counted (valueOf answer) ⌝ }
-{
-    match answer {
-        Answer::Refused(_) => 0,
-        Answer::Code(_) => 0,
-        Answer::Count(n) => n,
-        Answer::Holder(_) => 0,
-        Answer::Default(_) => 0,
-        Answer::Nobody => 0,
-    }
-}
-
 // The row that stands in the buffer at `from`.
 fn row_text(out: &mut [u8], at: usize, rows: &[u8], from: usize) -> usize
     requires { ⌜ (from + 17 ≤ length (now rows)) × (at + 63 ≤ length (now out)) ⌝ }
@@ -182,14 +182,14 @@ pub(crate) fn told(
     ensures { λ r. ⌜ ((o : Outcome) → o .number ≡ numberOf answer → o .value ≡ valueOf answer → o .bytes ≡ now (rows .entry)
         → Stands (now (out .entry)) at (cond (eqb (o .number) 0) (frameText clock f o) (refusedText (o .number))) (now (out .exit)) r) ⌝ }
 {
-    let n = number_of(answer);
+    let n = answer.number();
     if n != 0 {
         return refused(out, at, n);
     }
     match f {
         Frame::Event(e) => code_text(out, at, clock, e.id, answer),
         Frame::Cancel(id) => code_text(out, at, clock, id, answer),
-        Frame::Clock(_) => rows_text(out, at, rows, count_of(answer)),
+        Frame::Clock(_) => rows_text(out, at, rows, answer.count()),
         Frame::Program(_, _, _) => at,
         Frame::Ask(control) => ask_text(out, at, control, answer),
     }

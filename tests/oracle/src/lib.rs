@@ -5,6 +5,8 @@
 //! also runs lines and prints their output.
 
 pub mod bench;
+#[cfg(feature = "face")]
+pub mod beside;
 pub mod calls;
 pub mod event;
 pub mod fast;

@@ -5,6 +5,26 @@ use std::io::{self, BufRead, Write};
 use crate::calls::Calls;
 use crate::frame::LONGEST_LINE;
 
+/// The worked example of document 01, and what is printed for it.
+pub const EXAMPLE: &str = "\
+04000100000001
+030000000000000FA0
+01000000000000000100000000010000006400001388000002580000000000000000
+0100000000000000020000000001000000C8000014B40000003C0000000000000000
+030000000000001770
+0500
+";
+
+pub const EXAMPLE_OUTPUT: &str = "\
+4000 1 1
+4000 2 1
+5000 1 2
+5300 1 7
+5300 2 2
+5360 2 3
+0 default 0
+";
+
 /// A line in parts. One character more than the longest frame is enough to know that it is none,
 /// so a line of any length needs little room.
 #[derive(Default)]
@@ -63,5 +83,30 @@ fn feed(piece: &[u8], part: &mut Part, calls: &mut impl Calls, out: &mut Vec<u8>
             part.finish(calls, out);
         }
         None => part.add(piece),
+    }
+}
+
+/// The error tells the first line that differs. A missing line feed at the end counts.
+pub fn same(expected: &[u8], printed: &[u8]) -> Result<(), String> {
+    if expected == printed {
+        return Ok(());
+    }
+    let mut wanted = expected.split(|&byte| byte == b'\n');
+    let mut found = printed.split(|&byte| byte == b'\n');
+    let mut number = 1;
+    loop {
+        let (left, right) = (wanted.next(), found.next());
+        if left != right {
+            let (left, right) = (show(left), show(right));
+            return Err(format!("line {number}: expected {left}, printed {right}"));
+        }
+        number += 1;
+    }
+}
+
+fn show(line: Option<&[u8]>) -> String {
+    match line {
+        None => "no more".to_string(),
+        Some(line) => format!("`{}`", line[..line.len().min(80)].escape_ascii()),
     }
 }

@@ -58,6 +58,18 @@ fn random_record(
     let event = random_event(dice, id, clock as i64);
     event.check_fields(programs).ok()?;
     let effective_start = random_start(dice, &event, clock);
+    random_state(dice, event, effective_start, clock, free)
+}
+
+/// The event in any state that the rules allow at the clock: a started one may hold controls that
+/// are free, and takes them. `None` if it has ended.
+pub(crate) fn random_state(
+    dice: &mut Dice,
+    event: Event,
+    effective_start: u64,
+    clock: u64,
+    free: &mut u32,
+) -> Option<Record> {
     let cancelled = dice.chance(1, 5);
     let mut held = 0;
     if effective_start <= clock && !cancelled {

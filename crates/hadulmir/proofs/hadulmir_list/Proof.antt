@@ -10,6 +10,7 @@ use lib.Seq.{take-take}
 use Rattle.rules.specs.Lists.{over}
 use Rattle.rules.specs.Sound.{sound}
 use Rattle.rules.proofs.SoundState.{rules}
+use Rattle.octets.proofs.Fits.{copy-inside}
 use Rattle.hadulmir.proofs.Facing.{Formed, formed-as, is-imaged, unread, unimaged}
 use Rattle.hadulmir.proofs.Unstored.{listed-short, listed-all}
 use Rattle.hadulmir.proofs.hadulmir_list.Statement.{statement}
@@ -45,13 +46,6 @@ sub-copy c = omega (arith, known (c .before .before .before) .size)
 part-copy-start : tie.Need-part-copy-start
 part-copy-start c = omega (arith, known (c .before .before .before) .size)
 
-copy-requires : tie.Need-copy-requires
-copy-requires c κs =
-    let d = c .before .before .before in
-    let few = rules _ (kept d) .count in
-    let size = known (d .before) .size in
-    (omega (arith, c .before .before .if3 .left), simp (length-take, length-drop) (omega arith))
-
 cast-result : tie.Need-cast-result
 cast-result c = omega (arith, rules _ (kept (c .before .before .before .before .before .before)) .count)
 
@@ -64,7 +58,7 @@ returns-4 c =
     let size = known (d .before) .size in
     let part = take-take (46 * r .read .result .schedule .count) (length (a .image .now) - 57) (drop 57 (a .image .now)) (omega arith) in
     listed-all (known (d .before)) (a .records .now) (kept d) (λ i. omega (arith, r .before .before .shared-slice-known .given i)) (c .before .before .before .before .before .if3 .left)
-    (c .before .before .copy .ensures ∙ ap (λ x. over x (a .records .now)) part)
+    (c .before .before .copy .ensures ∙ copy-inside (46 * r .read .result .schedule .count) _ (a .records .now) (simp (length-take, length-drop) (omega arith)) (omega (arith, c .before .before .before .before .before .if3 .left)) ∙ ap (λ x. over x (a .records .now)) part)
 
 pub hadulmir-list-spec : {M : Type 1} → statement M
 hadulmir-list-spec =
@@ -82,7 +76,7 @@ hadulmir-list-spec =
     part-copy-start
     (λ c. search needs)
     (λ c. search needs)
-    copy-requires
+    (λ c κs. search needs)
     cast-result
     (λ c. search needs)
     returns-4)

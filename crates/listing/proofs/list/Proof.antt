@@ -65,7 +65,7 @@ use Rattle.calls.specs.declared.Answered.{Answered}
 use Rattle.listing.specs.declared.records.Written.{Written}
 use Rattle.calls.specs.Answered.{outcomeOf}
 use Rattle.listing.specs.Listed.{Lists}
-use Rattle.calls.proofs.Copying.{copied-more, copied-all, copied-length, over-length}
+use Rattle.rules.proofs.Copying.{copied-more, copied-all, copied-length, over-length}
 use Rattle.calls.proofs.Answered as Ans
 use Rattle.calls.proofs.Answered.Laws as Ans′
 use Rattle.listing.proofs.records.Written as Wr

@@ -30,7 +30,7 @@ slice-reshare-prefix-write-all c =
     let l = r .before .before .before .loop in
     let a = r .before .before .before .before .before .before .args in
     let w = went (l .s) (l .inv .0) (r .run .result) (r .run .ensures) in
-    omega (arith, w .fits, c .count-of .ensures, c .before .before .before .out .given)
+    omega (arith, w .fits, c .count .ensures, c .before .before .before .out .given)
 
 slice-aggregate-write-all : tie.Need-slice-aggregate-write-all Inv-loop μ-loop
 slice-aggregate-write-all c =
@@ -38,7 +38,7 @@ slice-aggregate-write-all c =
     let l = r .before .before .before .loop in
     let a = r .before .before .before .before .before .before .args in
     let w = went (l .s) (l .inv .0) (r .run .result) (r .run .ensures) in
-    sym (length-take-le (c .before .count-of .result) _ (omega (arith, w .fits, c .before .count-of .ensures, c .before .before .before .before .out .given)))
+    sym (length-take-le (c .before .count .result) _ (omega (arith, w .fits, c .before .count .ensures, c .before .before .before .before .out .given)))
 
 returns : tie.Need-returns Inv-loop μ-loop
 returns c =

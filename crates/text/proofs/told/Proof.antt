@@ -18,7 +18,7 @@ returns c o n v b = rw (ne-eqb (length (c .before .before .before .args .rows .n
 returns-2 : tie.Need-returns-2
 returns-2 c o n v b =
     let d = c .before .before in
-    rw (lt-leb (counted (o .value)) 96 (omega (arith, ap counted v, c .before .count-of .ensures, c .if2 .taken)), and-false) put-none
+    rw (lt-leb (counted (o .value)) 96 (omega (arith, ap counted v, c .before .count .ensures, c .if2 .taken)), and-false) put-none
 
 returns-3 : tie.Need-returns-3
 returns-3 c o n v b =
@@ -26,7 +26,7 @@ returns-3 c o n v b =
     let d = c .before .before in
     rw (
       eq-eqb (length (c .before .before .before .before .before .before .before .args .rows .now)) 1632 (d .before .before .if1 .left),
-      le-leb (counted (o .value)) 96 (omega (arith, ap counted v, d .before .count-of .ensures, d .if2 .left)),
+      le-leb (counted (o .value)) 96 (omega (arith, ap counted v, d .before .count .ensures, d .if2 .left)),
     )
     (room-none mostText _ (sym (h .ensures) ∙ not-true (h .result) (c .if3 .taken)))
 
@@ -34,7 +34,7 @@ told-requires : tie.Need-told-requires
 told-requires c κs =
     let h = c .before .before .has-room in
     let d = c .before .before .before in
-    (leb-true _ _ (sym (h .ensures) ∙ not-false (h .result) (c .before .if3 .left)), d .before .before .if1 .left, omega (arith, d .before .count-of .ensures, d .if2 .left))
+    (leb-true _ _ (sym (h .ensures) ∙ not-false (h .result) (c .before .if3 .left)), d .before .before .if1 .left, omega (arith, d .before .count .ensures, d .if2 .left))
 
 returns-4 : tie.Need-returns-4
 returns-4 c o n v b =
@@ -43,7 +43,7 @@ returns-4 c o n v b =
     let d = e .before .before in
     rw (
       eq-eqb (length (c .before .before .before .before .before .before .before .before .before .before .before .args .rows .now)) 1632 (d .before .before .if1 .left),
-      le-leb (counted (o .value)) 96 (omega (arith, ap counted v, d .before .count-of .ensures, d .if2 .left)),
+      le-leb (counted (o .value)) 96 (omega (arith, ap counted v, d .before .count .ensures, d .if2 .left)),
     )
     (room-there mostText (sym (h .ensures) ∙ not-false (h .result) (e .if3 .left)) (c .before .before .told .ensures o n v b))
 

@@ -6,15 +6,16 @@ use std::collections::BTreeMap;
 use std::process::ExitCode;
 use std::time::Instant;
 
+use oracle::beside::{compare, make_fresh, same_from, Broken, Lent, Oracle, Outcome, Seen, SIDES};
 use oracle::calls::{lines_of, AMPLE, ROW_BYTES};
 use oracle::event::MOST_EVENTS;
 use oracle::generate::{generate, go_on, profile_names};
 use oracle::image::{self, ENTRY_BYTES, IMAGE_BYTES};
 use oracle::pair::pair;
-use oracle::proved::{self, Call};
+use oracle::proved::Call;
 use oracle::random::Dice;
 use oracle::states::random_image;
-use oracle::{decode, Answer, Calls, Event, Fast, Frame, Program, Record, Row, Scheduler};
+use oracle::{decode, Calls, Event, Fast, Frame, Program, Row, Scheduler};
 
 const USAGE: &str = "\
 face [LISTS [FIRST]]   LISTS is the number of lists, 20000 if not given,
@@ -74,9 +75,6 @@ fn test_all(plant: Option<Plant>, lists: u64, first: u64) -> ExitCode {
         _ => ExitCode::FAILURE,
     }
 }
-
-/// An error tells what differs.
-type Outcome<T = ()> = Result<T, String>;
 
 #[derive(Default)]
 struct Totals {
@@ -305,101 +303,6 @@ fn conclusion(face: &mut Face, dice: Dice, text: &[u8]) -> Outcome<Conclusion> {
     })
 }
 
-// The oracle's side of a call.
-
-trait Oracle: Calls + Clone {
-    fn image(&mut self) -> Vec<u8>;
-}
-
-impl Oracle for Scheduler {
-    fn image(&mut self) -> Vec<u8> {
-        self.to_image()
-    }
-}
-
-impl Oracle for Fast {
-    fn image(&mut self) -> Vec<u8> {
-        self.to_image()
-    }
-}
-
-/// An image that breaks a rule: each call is refused with 2.
-#[derive(Clone)]
-struct Broken(Vec<u8>);
-
-impl Oracle for Broken {
-    fn image(&mut self) -> Vec<u8> {
-        self.0.clone()
-    }
-}
-
-impl Calls for Broken {
-    fn clock(&self) -> u64 {
-        0
-    }
-
-    fn add_program(&mut self, _: u8, _: Program) -> Result<(), u8> {
-        Err(2)
-    }
-
-    fn deliver(&mut self, _: &Event) -> Result<u8, u8> {
-        Err(2)
-    }
-
-    fn cancel(&mut self, _: u64) -> Result<u8, u8> {
-        Err(2)
-    }
-
-    fn set_clock(&mut self, _: u64, _: usize) -> Result<&[Row], u8> {
-        Err(2)
-    }
-
-    fn ask(&mut self, _: u8) -> Result<Answer, u8> {
-        Err(2)
-    }
-
-    fn list(&mut self, _: usize) -> Result<Vec<Record>, u8> {
-        Err(2)
-    }
-}
-
-/// Gives the number that C has to return, a refusal as error, and writes what C has to write.
-fn answer(oracle: &mut impl Calls, call: &Call, lent: &mut [u8]) -> Result<i32, u8> {
-    match *call {
-        Call::Program(number, program) => oracle.add_program(number, program).map(|()| 0),
-        Call::Deliver(event) => oracle.deliver(&event).map(i32::from),
-        Call::Cancel(id) => oracle.cancel(id).map(i32::from),
-        Call::Clock(reading, room) => {
-            let rows = oracle.set_clock(reading, room)?;
-            write_front(lent, rows.iter().map(Row::bytes));
-            Ok(rows.len() as i32)
-        }
-        Call::Ask(control, room) => match oracle.ask(control)? {
-            Answer::Event(_) if room < 8 => Err(13),
-            Answer::Event(id) => {
-                write_front(lent, [id.to_be_bytes()]);
-                Ok(1)
-            }
-            Answer::Default(program) => Ok(2 + i32::from(program)),
-            Answer::None => Ok(0),
-        },
-        Call::List(room) => {
-            let records = oracle.list(room / ENTRY_BYTES)?;
-            write_front(lent, records.iter().map(Record::entry));
-            Ok(records.len() as i32)
-        }
-    }
-}
-
-fn write_front<P: AsRef<[u8]>>(lent: &mut [u8], pieces: impl IntoIterator<Item = P>) {
-    let mut at = 0;
-    for piece in pieces {
-        let piece = piece.as_ref();
-        lent[at..at + piece.len()].copy_from_slice(piece);
-        at += piece.len();
-    }
-}
-
 // The proved side of a call.
 
 /// A fault that is put into what C gave, to see that it is noticed.
@@ -514,33 +417,6 @@ fn flip_bit(dice: &mut Dice, bytes: &mut [u8]) {
 
 // Both sides.
 
-/// Bytes between guards. The odd length of a guard keeps them off the borders of words.
-#[derive(Clone)]
-struct Lent(Vec<u8>);
-
-const GUARD: usize = 33;
-
-impl Lent {
-    /// Bytes that a call would hardly write by chance.
-    fn noise(dice: &mut Dice, size: usize) -> Self {
-        let words = (size + 2 * GUARD).div_ceil(8);
-        let mut bytes: Vec<u8> = (0..words).flat_map(|_| dice.roll().to_ne_bytes()).collect();
-        bytes.truncate(size + 2 * GUARD);
-        Lent(bytes)
-    }
-
-    fn holding(dice: &mut Dice, content: &[u8]) -> Self {
-        let mut lent = Lent::noise(dice, content.len());
-        lent.inside().copy_from_slice(content);
-        lent
-    }
-
-    fn inside(&mut self) -> &mut [u8] {
-        let end = self.0.len() - GUARD;
-        &mut self.0[GUARD..end]
-    }
-}
-
 /// A list under way on both sides.
 struct Run<'a, O> {
     face: &'a mut Face,
@@ -568,21 +444,8 @@ impl<'a, O: Oracle> Run<'a, O> {
     fn fresh(face: &'a mut Face, mut dice: Dice, oracle: O) -> Outcome<Self> {
         let noise = Lent::noise(&mut dice, IMAGE_BYTES).inside().to_vec();
         let mut run = Run::from(face, dice, oracle, &noise);
-        run.make_fresh()?;
+        make_fresh(&mut run.image)?;
         Ok(run)
-    }
-
-    /// Only the length of an image counts here.
-    fn make_fresh(&mut self) -> Outcome {
-        let mut wanted = self.image.clone();
-        let is_right_length = wanted.inside().len() == IMAGE_BYTES;
-        if is_right_length {
-            wanted.inside().fill(0);
-        }
-        let returned = proved::fresh(self.image.inside());
-        same_number(if is_right_length { 0 } else { -2 }, returned)
-            .and_then(|()| same_lent("image", &wanted, &self.image))
-            .map_err(|reason| format!("fresh: {reason}"))
     }
 
     /// Lines that are no frames are no calls. After each call something may come `between`.
@@ -723,7 +586,7 @@ impl<'a, O: Oracle> Run<'a, O> {
         let control = self.dice.below(40) as u8;
         self.ask(control)?;
         self.list()?;
-        self.make_fresh()
+        make_fresh(&mut self.image)
     }
 
     fn make(&mut self, call: &Call) -> Outcome {
@@ -733,12 +596,8 @@ impl<'a, O: Oracle> Run<'a, O> {
     /// Makes one call on both sides. Gives the number and the lent bytes.
     fn call(&mut self, call: &Call) -> Outcome<(i32, Vec<u8>)> {
         self.calls += 1;
-        let before = Seen {
-            returned: 0,
-            image: self.image.clone(),
-            lent: Lent::noise(&mut self.dice, call.room()),
-        };
-        let wanted = self.by_oracle(call, before.clone());
+        let before = Seen::before(call, &self.image, &mut self.dice);
+        let wanted = before.clone().by_oracle(&mut self.oracle, call);
         let mut found = self.through_c(call, before.clone());
         compare(&before, &wanted, &found)
             .map_err(|reason| format!("call {} {call:?}: {reason}", self.calls))?;
@@ -751,72 +610,10 @@ impl<'a, O: Oracle> Run<'a, O> {
         Ok((found.returned, lent))
     }
 
-    fn by_oracle(&mut self, call: &Call, mut seen: Seen) -> Seen {
-        let lent = seen.lent.inside();
-        seen.returned = match answer(&mut self.oracle, call, lent) {
-            Ok(number) => number,
-            Err(refusal) => -i32::from(refusal),
-        };
-        seen.image.inside().copy_from_slice(&self.oracle.image());
-        seen
-    }
-
+    /// Counted, and with a fault if one is to be planted.
     fn through_c(&mut self, call: &Call, mut seen: Seen) -> Seen {
         let (image, lent) = (seen.image.inside(), seen.lent.inside());
         seen.returned = self.face.call(call, image, lent);
         seen
     }
-}
-
-/// All that a host can see of a call.
-#[derive(Clone)]
-struct Seen {
-    returned: i32,
-    image: Lent,
-    lent: Lent,
-}
-
-fn compare(before: &Seen, wanted: &Seen, found: &Seen) -> Outcome {
-    same_number(wanted.returned, found.returned)?;
-    same_lent("lent bytes", &wanted.lent, &found.lent)?;
-    same_lent("image", &wanted.image, &found.image)?;
-    if found.returned < 0 {
-        same_lent("lent bytes, refused", &before.lent, &found.lent)?;
-        same_lent("image, refused", &before.image, &found.image)?;
-    }
-    Ok(())
-}
-
-fn same_number(wanted: i32, returned: i32) -> Outcome {
-    match wanted == returned {
-        true => Ok(()),
-        false => Err(format!("returned: oracle {wanted}, C {returned}")),
-    }
-}
-
-const SIDES: [&str; 2] = ["oracle", "C"];
-
-/// Guards stand before byte 0 and behind the last.
-fn same_lent(what: &str, wanted: &Lent, found: &Lent) -> Outcome {
-    same_from(GUARD, SIDES, what, &wanted.0, &found.0)
-}
-
-/// The error shows both sides from the first byte that differs, counted from `origin`.
-fn same_from(origin: usize, sides: [&str; 2], what: &str, left: &[u8], right: &[u8]) -> Outcome {
-    if left == right {
-        return Ok(());
-    }
-    let equal = left.iter().zip(right).take_while(|(a, b)| a == b).count();
-    let at = equal as i64 - origin as i64;
-    let [one, other] = sides;
-    let (left, right) = (show(&left[equal..]), show(&right[equal..]));
-    Err(format!(
-        "{what} from byte {at}: {one} {left}, {other} {right}"
-    ))
-}
-
-fn show(bytes: &[u8]) -> String {
-    const SHOWN: usize = 24;
-    let shown = bytes.iter().take(SHOWN);
-    shown.map(|byte| format!("{byte:02X}")).collect()
 }

@@ -10,6 +10,7 @@ use std::time::{Duration, Instant};
 
 use oracle::generate::{generate, profile_names};
 use oracle::pair::pair;
+use oracle::program::{same, EXAMPLE, EXAMPLE_OUTPUT};
 use oracle::random::Dice;
 use oracle::{Calls, Scheduler};
 
@@ -180,31 +181,6 @@ fn finish(mut child: Child) -> io::Result<Vec<u8>> {
     }
 }
 
-/// The error tells the first line that differs. A missing line feed at the end counts.
-fn same(expected: &[u8], printed: &[u8]) -> Result<(), String> {
-    if expected == printed {
-        return Ok(());
-    }
-    let mut wanted = expected.split(|&byte| byte == b'\n');
-    let mut found = printed.split(|&byte| byte == b'\n');
-    let mut number = 1;
-    loop {
-        let (left, right) = (wanted.next(), found.next());
-        if left != right {
-            let (left, right) = (show(left), show(right));
-            return Err(format!("line {number}: expected {left}, printed {right}"));
-        }
-        number += 1;
-    }
-}
-
-fn show(line: Option<&[u8]>) -> String {
-    match line {
-        None => "no more".to_string(),
-        Some(line) => format!("`{}`", line[..line.len().min(80)].escape_ascii()),
-    }
-}
-
 // The lines that the tests are made of.
 
 /// A program, the clock 4000 and an event from 5000 to 5600 on control 0.
@@ -291,24 +267,7 @@ fn expect_refusals(tests: &mut Tests, name: &str, lines: &[Vec<u8>]) {
 
 /// Without this the refusals below might be due to more than the damage.
 fn sound_frames(tests: &mut Tests) {
-    let example = "\
-04000100000001
-030000000000000FA0
-01000000000000000100000000010000006400001388000002580000000000000000
-0100000000000000020000000001000000C8000014B40000003C0000000000000000
-030000000000001770
-0500
-";
-    let output = "\
-4000 1 1
-4000 2 1
-5000 1 2
-5300 1 7
-5300 2 2
-5360 2 3
-0 default 0
-";
-    let (text, expected) = (example.as_bytes(), output.as_bytes());
+    let (text, expected) = (EXAMPLE.as_bytes(), EXAMPLE_OUTPUT.as_bytes());
     tests.expect("the example of document 01", text, Feed::File, expected);
     let text = [OPENING, CLOSING].concat();
     let expected = [OPENED, CLOSED].concat();

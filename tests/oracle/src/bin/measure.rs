@@ -19,6 +19,8 @@ const TURNS: usize = 7;
 const EMPTY_TURNS: usize = 35;
 /// Less than this after the subtraction is mostly noise of starting a process.
 const SHORTEST: f64 = 1.0;
+/// A middle turn that takes so many times the best one tells of a busy machine.
+const CALM: f64 = 1.2;
 
 fn main() -> ExitCode {
     let arguments: Vec<String> = std::env::args().skip(1).collect();
@@ -120,35 +122,40 @@ impl Race {
             empty: [0.0; 2],
         };
         fs::create_dir_all(&race.folder)?;
-        race.empty = race.best(b"", EMPTY_TURNS)?;
+        race.empty = race.turns(b"", EMPTY_TURNS)?.map(|turns| turns[0]);
         Ok(race)
     }
 
     /// Prints the row of one file and gives its times.
     fn file(&self, profile: &str, count: usize) -> Done<Times> {
         let text = generate(SEED, count, profile).ok_or("no such profile")?;
-        let best = self.best(&text, TURNS).map_err(say)?;
-        let times = [0, 1].map(|at| best[at] - self.empty[at]);
+        let turns = self.turns(&text, TURNS).map_err(say)?;
+        let times = [0, 1].map(|at| turns[at][0] - self.empty[at]);
         let [program, rival] = times;
         let ratio = program / rival;
         print!("{profile:7} {count:7}  {}", describe(&text));
-        println!("  {program:7.2}  {rival:7.2}  {ratio:5.2}{}", doubt(times));
+        println!(
+            "  {program:7.2}  {rival:7.2}  {ratio:5.2}{}",
+            doubt(times, &turns)
+        );
         Ok(times)
     }
 
-    /// The two take turns, so that a slow spell of the machine meets both.
-    fn best(&self, text: &[u8], turns: usize) -> io::Result<Times> {
+    /// The two take turns, so that a slow spell of the machine meets both. Each one's times
+    /// ascend, so the first is its best.
+    fn turns(&self, text: &[u8], turns: usize) -> io::Result<[Vec<f64>; 2]> {
         let input = self.folder.join("input");
         let outputs = ["program", "rival"].map(|name| self.folder.join(name));
         fs::write(&input, text)?;
-        let mut best = [f64::INFINITY; 2];
+        let mut times = [vec![], vec![]];
         for _ in 0..turns {
             for (at, command) in self.commands.iter().enumerate() {
-                best[at] = time(command, &input, &outputs[at])?.min(best[at]);
+                times[at].push(time(command, &input, &outputs[at])?);
             }
         }
+        times.iter_mut().for_each(|one| one.sort_by(f64::total_cmp));
         match fs::read(&outputs[0])? == fs::read(&outputs[1])? {
-            true => Ok(best),
+            true => Ok(times),
             false => Err(io::Error::other("the two outputs differ")),
         }
     }
@@ -167,10 +174,15 @@ fn time(command: &[String], input: &Path, output: &Path) -> io::Result<f64> {
     }
 }
 
-fn doubt(times: Times) -> &'static str {
-    match times.iter().any(|&time| time < SHORTEST) {
-        true => "  too short to trust",
-        false => "",
+fn doubt(times: Times, turns: &[Vec<f64>; 2]) -> &'static str {
+    let busy = |one: &Vec<f64>| one[one.len() / 2] > CALM * one[0];
+    match (
+        times.iter().any(|&time| time < SHORTEST),
+        turns.iter().any(busy),
+    ) {
+        (true, _) => "  too short to trust",
+        (_, true) => "  the machine is busy",
+        _ => "",
     }
 }
 

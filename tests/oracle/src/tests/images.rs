@@ -6,6 +6,7 @@ use crate::event::CONTROLS;
 use crate::generate::generate;
 use crate::image::{self, Image, IMAGE_BYTES};
 use crate::random::Dice;
+use crate::states::random_state;
 use crate::{decode, Calls, Event, Fast, Frame, Program, Record, Scheduler};
 
 use super::support::{event, program, rows_to};
@@ -205,18 +206,7 @@ fn random_record(dice: &mut Dice, id: u64, clock: u64, free: &mut u32) -> Option
     let length = event.effective_end() - event.drawn_start();
     let delay = dice.pick(&[0, 0, length - 1, dice.clone().below(length)]);
     let effective_start = event.drawn_start() + delay;
-    let cancelled = dice.chance(1, 5);
-    let mut held = 0;
-    if effective_start <= clock && !cancelled {
-        held = event.controls & *free & dice.pick(&[0, 1, 3, 6, u32::MAX]);
-        *free &= !held;
-    }
-    (event.effective_end() > clock).then_some(Record {
-        event,
-        effective_start,
-        held,
-        cancelled,
-    })
+    random_state(dice, event, effective_start, clock, free)
 }
 
 /// Lines of a generated list from near the image's clock on, which fit tight times.

@@ -3,27 +3,8 @@
 use std::io::BufReader;
 
 use crate::generate::generate;
-use crate::program::serve;
+use crate::program::{serve, EXAMPLE, EXAMPLE_OUTPUT};
 use crate::{decode, Calls, Fast, Scheduler};
-
-const EXAMPLE: &str = "\
-04000100000001
-030000000000000FA0
-01000000000000000100000000010000006400001388000002580000000000000000
-0100000000000000020000000001000000C8000014B40000003C0000000000000000
-030000000000001770
-0500
-";
-
-const EXAMPLE_OUTPUT: &str = "\
-4000 1 1
-4000 2 1
-5000 1 2
-5300 1 7
-5300 2 2
-5360 2 3
-0 default 0
-";
 
 fn printed(text: &[u8]) -> String {
     let mut out = Vec::new();

@@ -16,10 +16,10 @@ use Rattle.rules.specs.Sound.{sound}
 use Rattle.rules.specs.Refusals.{clockChecks}
 use Rattle.rules.specs.Calls.{Outcome, setClock, count, does, checks, call}
 use Rattle.rules.proofs.Bound.{few-rows}
+use Rattle.octets.proofs.Fits.{copy-inside, copy-size}
 use Rattle.calls.specs.Advanced.{Advanced}
 use Rattle.rules.proofs.CallLaws.{done}
 use Rattle.calls.proofs.Answers.{given}
-use Rattle.calls.proofs.Copying.{over-length}
 use Rattle.calls.proofs.reading.set_clock.Statement.{statement}
 use Rattle.calls.proofs.reading.set_clock.Tie as tie
 
@@ -65,18 +65,12 @@ returns-3 c =
       lt-ltb (length (a .buffer .now)) (17 * length (passed (view (a .s)) (a .reading) .rows)) (omega (arith, w .rows, c .if3 .taken)),
     ))
 
-copy-requires : tie.Need-copy-requires
-copy-requires c κs =
-    let d = c .before .before .before .before .before .before .before .before .before in
-    let w = c .before .before .before .advance .ensures in
-    (omega (arith, c .before .before .if3 .left), omega (arith, few (d .args .s) (d .pre) (d .args .reading) _ _ _ w), w .size)
-
 returns-4 : tie.Need-returns-4
 returns-4 c =
     let d = c .before .before .before .before .before .before .before .before .before .before .before .before .before in
     let a = d .args in
     let w = c .before .before .before .before .before .before .before .advance in
-    ap (λ z. record { number = 0; value = count (w .result .rows); state = w .result .schedule; bytes = z; records = [] }) (c .before .before .before .copy .ensures)
+    ap (λ z. record { number = 0; value = count (w .result .rows); state = w .result .schedule; bytes = z; records = [] }) (c .before .before .before .copy .ensures ∙ copy-inside (17 * w .result .rows) _ (a .buffer .now) (omega (arith, few (a .s) (d .pre) (a .reading) _ _ _ (w .ensures), w .ensures .size)) (omega (arith, c .before .before .before .before .before .before .if3 .left)))
     ∙ fits (a .s) (d .pre) (a .reading) (a .buffer .now) _ (w .result .schedule) (w .result .rows) (c .before .before .before .before .before .before .before .before .before .before .if1 .left) (c .before .before .before .before .before .before .before .before .before .if2 .left) (w .ensures) (c .before .before .before .before .before .before .if3 .left)
 
 pub set-clock-spec : {M : Type 1} → statement M
@@ -88,8 +82,8 @@ set-clock-spec =
     advance-requires
     (λ c. let d = c .before .before .before .before .before .before in record { fits = omega (arith, few (d .args .s) (d .pre) (d .args .reading) _ _ _ (c .advance .ensures)) })
     returns-3
+    (λ c. sym (c .before .before .before .advance .ensures .size))
     (λ c. let d = c .before .before .before .before .before .before .before .before .before in record { fits = omega (arith, few (d .args .s) (d .pre) (d .args .reading) _ _ _ (c .before .before .before .advance .ensures)) })
-    copy-requires
-    (λ c. let d = c .before .before .before .before .before .before .before .before .before .before .before .before .before in let w = c .before .before .before .before .before .before .before .advance in
-    ap length (c .before .before .before .copy .ensures) ∙ over-length (d .args .buffer .now) _ (17 * w .result .rows) (omega (arith, c .before .before .before .before .before .before .if3 .left)) (omega (arith, few (d .args .s) (d .pre) (d .args .reading) _ _ _ (w .ensures), w .ensures .size)))
+    (λ c κs. search needs)
+    (λ c. ap length (c .before .before .before .copy .ensures) ∙ copy-size _ _ _)
     returns-4)

@@ -1,41 +1,62 @@
 -- The loop has passed i pairs.
-use mathlib.Core.Logic.{inl, inr}
-use mathlib.Core.Path.{_≡_}
-use Prim.Native.Nat.{_-_, _≤_}
+use mathlib.Core.Path.{_≡_, refl}
+use Prim.Native.Nat.{_+_, _*_, _-_, _≤_}
 use native.Mathlib.Omega.{arith}
 use borrow.Author.Needs.{needs}
+use lib.ListN.{getD}
+use Rattle.frame.proofs.Worths.{worth-bound, Pair, pair-good, pair-bad}
 use Rattle.frame.proofs.Passes.{Passed, passed-none, passed-more, no-digit, passed-all}
 use Rattle.frame.proofs.digits.read_pairs.Statement.{statement}
 use Rattle.frame.proofs.digits.read_pairs.Tie as tie
 
 abbrev Inv-loop : tie.InvT-loop
-Inv-loop line n bytes₀ i₀ bytes i = (i ≤ n) × Passed line i bytes
+Inv-loop line n bytes₀ values i₀ bytes i = (i ≤ n) × Passed line i bytes
 
 abbrev μ-loop : tie.MeasureT-loop
-μ-loop line n bytes₀ i₀ bytes i = n - i
+μ-loop line n bytes₀ values i₀ bytes i = n - i
 
 loop-holds : tie.Need-loop-holds Inv-loop μ-loop
-loop-holds c = (omega arith, passed-none _ _ (c .before .pre .2))
+loop-holds c = (omega arith, passed-none _ _ (c .before .before .pre .2))
+
+value-requires : tie.Need-value-requires Inv-loop μ-loop
+value-requires c κs = c .before .before .before .before .table .ensures
+
+value-requires-2 : tie.Need-value-requires-2 Inv-loop μ-loop
+value-requires-2 c κs = c .before .before .before .before .before .before .before .table .ensures
+
+mul-pair : tie.Need-mul-pair Inv-loop μ-loop
+mul-pair c =
+    let v = c .before .before .before in
+    let l = v .before .before .before .before .loop in
+    let line = v .before .before .before .before .before .before .before .args .line .now in
+    omega (arith, c .value2 .ensures, v .value .ensures, worth-bound (getD line (2 * l .i) 0), worth-bound (getD line (2 * l .i + 1) 0))
+
+add-pair : tie.Need-add-pair Inv-loop μ-loop
+add-pair c =
+    let v = c .before .before .before in
+    let l = v .before .before .before .before .loop in
+    let line = v .before .before .before .before .before .before .before .args .line .now in
+    omega (arith, c .value2 .ensures, v .value .ensures, worth-bound (getD line (2 * l .i) 0), worth-bound (getD line (2 * l .i + 1) 0))
 
 returns : tie.Need-returns Inv-loop μ-loop
 returns c =
-    let l = c .before .before .before .before .before .before .loop in
-    no-digit _ (l .i) (omega arith) (l .inv .1) (c .before .before .before .nibble .ensures) (c .before .nibble2 .ensures) _ (inl (c .if1 .taken))
-
-returns-2 : tie.Need-returns-2 Inv-loop μ-loop
-returns-2 c =
-    let l = c .before .before .before .before .before .before .before .loop in
-    no-digit _ (l .i) (omega arith) (l .inv .1) (c .before .before .before .before .nibble .ensures) (c .before .before .nibble2 .ensures) _ (inr (c .if2 .taken))
+    let v = c .before .before .before .before in
+    let l = v .before .before .before .before .loop in
+    let line = v .before .before .before .before .before .before .before .args .line .now in
+    no-digit _ (l .i) (omega arith) (l .inv .1) refl refl _
+    (pair-bad (getD line (2 * l .i) 0) (getD line (2 * l .i + 1) 0) (omega (arith, c .if1 .taken, v .value .ensures, c .before .value2 .ensures)))
 
 loop-again : tie.Need-loop-again Inv-loop μ-loop
 loop-again c =
-    let n = c .before .before in
-    let l = n .before .before .before .before .before .loop in
-    (omega arith, passed-more _ (l .i) (omega arith) (l .inv .1) (n .before .before .nibble .ensures) (n .nibble2 .ensures) (omega arith) (omega arith) (omega arith))
+    let v = c .before .before .before .before in
+    let l = v .before .before .before .before .loop in
+    let line = v .before .before .before .before .before .before .before .args .line .now in
+    let p = pair-good (getD line (2 * l .i) 0) (getD line (2 * l .i + 1) 0) (omega (arith, c .if1 .left, v .value .ensures, c .before .value2 .ensures)) in
+    (omega arith, rw (v .value .ensures, c .before .value2 .ensures, p .is) (passed-more _ (l .i) (omega arith) (l .inv .1) refl refl (p .high) (p .low) (omega arith)))
 
-returns-3 : tie.Need-returns-3 Inv-loop μ-loop
-returns-3 c =
-    let d = c .before .before .before in
+returns-2 : tie.Need-returns-2 Inv-loop μ-loop
+returns-2 c =
+    let d = c .before .before .before .before in
     let e : c .before .loop .i ≡ d .args .n = omega arith in
     passed-all (d .pre .1) (rw e at (c .before .loop .inv .1))
 
@@ -45,20 +66,21 @@ read-pairs-spec =
     (tie.spec
     Inv-loop
     μ-loop
+    (λ c κs. search needs)
     loop-holds
     (λ c. search needs)
     (λ c. search needs)
-    (λ c κs. search needs)
+    value-requires
     (λ c. search needs)
     (λ c. search needs)
     (λ c. search needs)
-    (λ c κs. search needs)
+    value-requires-2
+    mul-pair
+    add-pair
     returns
-    returns-2
-    (λ c. search needs)
     (λ c. search needs)
     (λ c. search needs)
     (λ c. search needs)
     (λ c. search needs)
     loop-again
-    returns-3)
+    returns-2)

@@ -10,14 +10,14 @@ use Rattle.hadulmir.proofs.answers.finish.Tie as tie
 returns : tie.Need-returns
 unfolding finished
 returns c =
-    let n = c .before .before .number-of in
+    let n = c .before .before .number in
     rw (c .returned .ensures, ← n .ensures, ne-eqb (n .result) 0 (c .before .if1 .taken))
 
 returns-2 : tie.Need-returns-2
 unfolding finished
 returns-2 c =
     let w = c .before .before .before in
-    let n = w .before .before .before .before .number-of in
+    let n = w .before .before .before .before .number in
     let start = w .before .before .before .before .before .before in
     let p = written-as (start .args .a .schedule) (start .args .image .now) (w .write .ensures) in
     let fits = p .0 ∙ eq-eqb _ _ (start .pre .1) in

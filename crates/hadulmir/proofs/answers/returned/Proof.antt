@@ -8,13 +8,13 @@ use Rattle.hadulmir.proofs.answers.returned.Tie as tie
 returns : tie.Need-returns
 unfolding returnedFor
 returns c =
-    let n = c .before .before .number-of in
+    let n = c .before .before .number in
     rw (← n .ensures, c .before .if1 .taken) (c .shown .ensures)
 
 returns-2 : tie.Need-returns-2
 unfolding returnedFor
 returns-2 c =
-    let n = c .before .before .number-of in
+    let n = c .before .before .number in
     rw (← n .ensures, ne-eqb (n .result) 0 (c .before .if1 .left)) (c .negative .ensures)
 
 pub returned-spec : {M : Type 1} → statement M

@@ -9,36 +9,36 @@ use Rattle.text.proofs.writing.told.Tie as tie
 returns : tie.Need-returns
 returns c o n v b =
     let s = c .before .before .before .before in
-    rw (n ∙ sym (s .before .number-of .ensures), ne-eqb (s .before .number-of .result) 0 (s .if1 .taken)) (c .before .before .refused .ensures)
+    rw (n ∙ sym (s .before .number .ensures), ne-eqb (s .before .number .result) 0 (s .if1 .taken)) (c .before .before .refused .ensures)
 
 returns-2 : tie.Need-returns-2
 returns-2 c o n v b =
     let d = c .before .before .before .before .before in
     let s = d .before .before in
-    rw (n ∙ sym (s .before .number-of .ensures) ∙ s .if1 .left, d .f .given .1, v) (c .before .before .code-text .ensures)
+    rw (n ∙ sym (s .before .number .ensures) ∙ s .if1 .left, d .f .given .1, v) (c .before .before .code-text .ensures)
 
 returns-3 : tie.Need-returns-3
 returns-3 c o n v b =
     let d = c .before .before .before .before .before in
     let s = d .before .before in
-    rw (n ∙ sym (s .before .number-of .ensures) ∙ s .if1 .left, d .f2 .given .1, v) (c .before .before .code-text2 .ensures)
+    rw (n ∙ sym (s .before .number .ensures) ∙ s .if1 .left, d .f2 .given .1, v) (c .before .before .code-text2 .ensures)
 
 returns-4 : tie.Need-returns-4
 returns-4 c o n v b =
     let d = c .before .before .before .before .before in
     let s = d .before .before in
-    rw (n ∙ sym (s .before .number-of .ensures) ∙ s .if1 .left, d .enum-told .given .1, v, b, ← c .before .before .before .count-of .ensures) (c .before .before .rows-text .ensures)
+    rw (n ∙ sym (s .before .number .ensures) ∙ s .if1 .left, d .enum-told .given .1, v, b, ← c .before .before .before .count .ensures) (c .before .before .rows-text .ensures)
 
 returns-5 : tie.Need-returns-5
 returns-5 c o n v b =
     let s = c .before .before in
-    rw (n ∙ sym (s .before .number-of .ensures) ∙ s .if1 .left, c .enum-told2 .given .1) put-none
+    rw (n ∙ sym (s .before .number .ensures) ∙ s .if1 .left, c .enum-told2 .given .1) put-none
 
 returns-6 : tie.Need-returns-6
 returns-6 c o n v b =
     let d = c .before .before .before .before .before in
     let s = d .before .before in
-    rw (n ∙ sym (s .before .number-of .ensures) ∙ s .if1 .left, d .f3 .given .1, v) (c .before .before .ask-text .ensures)
+    rw (n ∙ sym (s .before .number .ensures) ∙ s .if1 .left, d .f3 .given .1, v) (c .before .before .ask-text .ensures)
 
 pub told-spec : {M : Type 1} → statement M
 told-spec =
