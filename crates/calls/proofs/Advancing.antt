@@ -12,7 +12,7 @@ use Rattle.rules.specs.declared.Entry.{Entry}
 use Rattle.rules.specs.declared.Program.{Program}
 use Rattle.rules.specs.declared.Schedule.{Schedule}
 use Rattle.rules.specs.Lists.{keep, All, Pairwise}
-use Rattle.rules.specs.Records.{noEntry, lastClock, view, pad}
+use Rattle.rules.specs.Records.{State, noEntry, lastClock, idOf, programAt, view, pad}
 use Rattle.rules.specs.Holding.{heldAt, withHolding, endOf}
 use Rattle.rules.specs.Rows.{Row, rowsAt}
 use Rattle.rules.specs.Moments.{lasts, advance, passed}
@@ -23,12 +23,16 @@ use Rattle.rules.proofs.ListLaws.{keep-all, asc-map}
 use Rattle.rules.proofs.SoundState.{Sound, ById, sound-view, rules, in-count}
 use Rattle.rules.proofs.Bound.{few-rows}
 use Rattle.rules.proofs.Jump.{onward, Idle}
-use Rattle.calls.specs.declared.columns.Columns.{Columns}
-use Rattle.calls.specs.Columns.{Claims, Codes, nextOf, momentRows, Written}
-use Rattle.calls.specs.Held.{Columned, Long}
+use Rattle.calls.specs.declared.held.Head.{Head}
+use Rattle.calls.specs.Slots.{entryOf, stateOf, scheduleOf, Ready}
+use Rattle.calls.specs.Columns.{stoppedOf, beginsOf, controlsOf, primaciesOf, createdOf, idsOf, Numbered, Dated, Claims, Codes, nextOf, momentRows, Written}
+use Rattle.calls.specs.Held.{Columns, columnsOf, Columned, Long}
 use Rattle.calls.specs.Settled.{claimants, settled}
-use Rattle.calls.specs.Finished.{lastingOf, finished}
+use Rattle.calls.specs.Finished.{lastingOf, Finished}
 use Rattle.calls.specs.Advanced.{Advanced}
+use Rattle.calls.proofs.Reached.{at-in, at-map}
+use Rattle.calls.proofs.Slots.{within, slot-at, count-of, sound-of, entry-at}
+use Rattle.calls.proofs.Columned.{primacies-long, created-long, ids-long}
 use Rattle.calls.proofs.Puts.{no-row, rows-then}
 use Rattle.calls.proofs.Undropped.{settledAt, stateIn, quiet-to, moment-then, sound-moment}
 use Rattle.calls.proofs.Moment.{Now, front-is, keep-append, is-end, is-begins, kept-are, codes-are, rows-are, now-next, next-after, next-idle}
@@ -123,14 +127,14 @@ module _ {s : Schedule} {to n : ℕ} {c : Columns} {old rows held : List ℕ} {c
       whole : t ≡ suc (clock + (t - suc clock))
       whole = omega (arith, after-now .0)
 
-      within : clock + (t - suc clock) ≤ lastClock
-      within = omega (arith, after-now .0, g .last)
+      in-time : clock + (t - suc clock) ≤ lastClock
+      in-time = omega (arith, after-now .0, g .last)
 
       split-next : passed (view s) to ≡ onward (record { state = stateIn ps next t; rows = g .done ++ rowsAt ps t (g .us) }) (advance (to - t) (stateIn ps next t))
       split-next =
           let rest = advance (to - t) (stateIn ps next t) in
           g .split
-          ∙ ap (onward (record { state = stateIn ps (g .us) clock; rows = g .done })) (moment-then ps (g .us) clock (t - suc clock) (g .state) within still t to whole h)
+          ∙ ap (onward (record { state = stateIn ps (g .us) clock; rows = g .done })) (moment-then ps (g .us) clock (t - suc clock) (g .state) in-time still t to whole h)
           ∙ ap (λ rs. record { state = rest .state; rows = rs }) (sym (append-assoc (g .done) (rowsAt ps t (g .us)) (rest .rows)))
 
       pub room : at + length (momentRows t n (c .ids) codes) ≤ 96
@@ -158,7 +162,7 @@ module _ {s : Schedule} {to n : ℕ} {c : Columns} {old rows held : List ℕ} {c
         us = next;
         done = g .done ++ rowsAt ps t (g .us);
         now = now-next ps (s .entries) (g .us) n c (g .columned) held (g .now) t kept masks;
-        state = sound-moment ps (g .us) clock (t - suc clock) (g .state) within still t whole (omega (arith, g .last));
+        state = sound-moment ps (g .us) clock (t - suc clock) (g .state) in-time still t whole (omega (arith, g .last));
         split = split-next;
         written = rows-then (g .written) (subst (Written rows at rows′ at′) rows-here w);
       }
@@ -196,10 +200,63 @@ module _ {s : Schedule} {to n : ℕ} {c : Columns} {old rows held : List ℕ} {c
           g .split ∙ ap (onward (record { state = stateIn ps (g .us) clock; rows = g .done })) quiet
           ∙ ap (λ rs. record { state = stateIn ps (g .us) to; rows = rs }) (append-nil (g .done))
 
-      pub stop : (end : Schedule) → end ≡ finished s to (c .ends) held → Advanced s to rows end at
-      stop end f = record {
-        schedule = f ∙ ap (λ hs. pad (record { clock = to; programs = ps; entries = hs })) all-lasting ∙ ap (λ m. pad (m .state)) (sym there);
+      pub stop : (end : State) → end .clock ≡ to → end .programs ≡ ps → end .entries ≡ lastingOf to (s .count) (s .entries) (c .ends) held → Advanced s to rows (pad end) at
+      stop end k p f = record {
+        schedule = ap pad (λ i. record { clock = k i; programs = p i; entries = (f ∙ all-lasting) i }) ∙ ap (λ m. pad (m .state)) (sym there);
         rows = omega (arith, g .written .count, ap (λ m. length (m .rows)) there);
         written = g .written .front ∙ ap (λ m. bytes (m .rows)) (sym there);
         size = g .written .size ∙ g .size;
       }
+
+-- Slots.
+
+module _ {d : Head} {w : List (List ℕ)} (r : Ready d w) where
+  abbrev whole-of : Schedule
+  whole-of = scheduleOf d w
+
+  -- a column has the fields of the entries
+  column : {A : Type 0} (f : Entry → A) (e : A) (k : ℕ) → k < d .count → getD (map (λ x. f (entryOf x)) w) k e ≡ f (getD (whole-of .entries) k noEntry)
+  column f e k l = at-map (λ x. f (entryOf x)) [] e w k (omega (arith, within r)) ∙ sym (ap f (entry-at r k l))
+
+  columned : (ends held : List ℕ) → Dated (d .count) w ends held → Columned (d .programs) (whole-of .entries) (d .count) (columnsOf (d .programs) w ends held)
+  unfolding stoppedOf beginsOf controlsOf primaciesOf createdOf idsOf
+  columned ends held t = record {
+    stopped = column (λ h. h .cancelled) false;
+    ends = λ k l. t .dated k l ∙ sym (ap endOf (entry-at r k l));
+    begins = column (λ h. h .begins) 0;
+    controls = column (λ h. h .event .controls) 0;
+    primacies = column (λ h. programAt (d .programs) (h .event .program) .primacy) 0;
+    created = column (λ h. h .event .created) 0;
+    ids = column (λ h. idOf (h .event)) 0;
+    held = λ k l. t .masks k l ∙ sym (ap (λ h. h .held) (entry-at r k l));
+  }
+
+  long-of : (ends held : List ℕ) → Long (columnsOf (d .programs) w ends held)
+  long-of ends held = record { primacies = primacies-long w (d .programs) ∙ r .size; created = created-long w ∙ r .size; ids = ids-long w ∙ r .size }
+
+  pub begin : (to : ℕ) (ends held old : List ℕ) → d .clock ≤ to → to ≤ lastClock → length old ≡ 1632 → Dated (d .count) w ends held
+      → Going whole-of to (d .count) (columnsOf (d .programs) w ends held) old old held (d .clock) 0
+  begin to ends held old h l size t =
+      subst (λ n. Going whole-of to n (columnsOf (d .programs) w ends held) old old held (d .clock) 0) (count-of r)
+      (start whole-of to (columnsOf (d .programs) w ends held) old (r .good) h l size
+      (subst (λ n. Columned (d .programs) (whole-of .entries) n (columnsOf (d .programs) w ends held)) (sym (count-of r)) (columned ends held t)) (long-of ends held))
+
+  -- the events of sound slots have programs
+  pub numbered : Numbered (d .count) w
+  numbered k l =
+      let it = sound-of r .entries (getD (stateOf d w .entries) k noEntry) (at-in noEntry (stateOf d w .entries) k (omega (arith, count-of r))) in
+      omega (arith, rw (slot-at w (d .count) (within r) k l) at (it .numbered))
+
+  -- what lasts hangs on the entries in use alone
+  same-lasting : (to : ℕ) (ends held : List ℕ) (i : ℕ) → i ≤ d .count → lastingOf to i (map entryOf w) ends held ≡ lastingOf to i (whole-of .entries) ends held
+  unfolding lastingOf
+  same-lasting to ends held zero l = refl
+  same-lasting to ends held (suc i) l =
+      ap₂ (λ f (h : Entry). f ++ cond (ltb to (getD ends i 0)) (withHolding h (record { held = getD held i 0 }) ∷ []) [])
+      (same-lasting to ends held i (omega arith))
+      (at-map entryOf [] noEntry w i (omega (arith, within r)) ∙ sym (entry-at r i (omega arith)))
+
+  pub lasting-of : (to : ℕ) (ends held : List ℕ) (next : List (List ℕ)) (k : ℕ) → Finished to (d .count) w ends held next k
+      → map entryOf (take k next) ≡ lastingOf to (whole-of .count) (whole-of .entries) ends held
+  lasting-of to ends held next k f =
+      f .lasting ∙ same-lasting to ends held (d .count) (omega arith) ∙ ap (λ n. lastingOf to n (whole-of .entries) ends held) (sym (count-of r))

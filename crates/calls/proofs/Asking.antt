@@ -1,21 +1,22 @@
 -- A question, place by place: the first event that holds the control, and the best default from the back.
-use mathlib.Core.Path.{_≡_, refl, sym, ap, ap₂, _∙_}
-use Prim.Native.Nat.{ℕ, suc, _+_, _-_, _<_, _≤_}
-use mathlib.Core.Bool.{Bool, true, false, cond, not, _&&_}
-use mathlib.Core.List.{List, [], _∷_}
-use mathlib.Core.Option.{Option, none, some}
+use mathlib.Core.Path.{_≡_, sym, ap, _∙_}
+use Prim.Native.Nat.{ℕ, suc, _+_, _<_, _≤_}
+use mathlib.Core.Bool.{Bool, true, false, not, _&&_}
+use mathlib.Core.List.{List, [], _∷_, map}
 use native.Mathlib.Numerals.{add-one}
 use native.Mathlib.Omega.{arith}
-use lib.Dec.{leb}
-use lib.ListN.{length, take, drop, getD, length-take, drop-of-length-le}
-use lib.Seq.{drop-cons, getD-take}
+use lib.ListN.{length, take, drop, getD, drop-of-length-le}
+use lib.Seq.{drop-cons}
 use borrow.Author.Tests.{le-leb, lt-leb, not-true, not-false}
 use Rattle.rules.specs.declared.Entry.{Entry}
 use Rattle.rules.specs.declared.Program.{Program}
 use Rattle.rules.specs.Records.{has, noProgram, noEntry}
-use Rattle.rules.specs.Calls.{Value, holder, default, nobody, entryId, holderIn, Ranked, bestOf, bestDefault, defaultFor}
+use Rattle.rules.specs.Calls.{Value, holder, default, nobody, holderIn, bestOf, bestDefault, defaultFor}
 use Rattle.calls.specs.declared.programs.Best.{Best}
 use Rattle.calls.specs.Best.{ranked, carrying}
+use Rattle.calls.specs.Slots.{entryOf}
+use Rattle.calls.proofs.Slots.{in-slots, slot-at}
+use Rattle.calls.proofs.Placing.{id-at}
 
 -- Defaults.
 
@@ -49,26 +50,26 @@ default-none c ps b e l = rw (e, drop-of-length-le ps {i = 8} (omega arith))
 
 -- Holders.
 
-module _ (c n : ℕ) (hs : List Entry) (v : Value) (fits : n ≤ length hs) where
+module _ (c n : ℕ) (w : List (List ℕ)) (v : Value) (fits : n ≤ length w) where
   abbrev from : ℕ → List Entry
-  from i = drop i (take n hs)
+  from i = drop i (map entryOf (take n w))
 
-  here : (i : ℕ) → i < n → from i ≡ getD hs i noEntry ∷ from (suc i)
-  here i l = drop-cons (take n hs) i noEntry (omega (arith, length-take n hs)) ∙ ap (λ h. h ∷ from (suc i)) (getD-take n hs i noEntry l)
+  here : (i : ℕ) → i < n → from i ≡ entryOf (getD w i []) ∷ from (suc i)
+  here i l = drop-cons (map entryOf (take n w)) i noEntry (omega (arith, in-slots w n fits)) ∙ ap (λ h. h ∷ from (suc i)) (slot-at w n fits i l)
 
   -- the first that holds it is the answer
-  pub held-here : (i : ℕ) → i < n → has (getD hs i noEntry .held) c ≡ true → holder (entryId (getD hs i noEntry)) ≡ holderIn c (from i) v
+  pub held-here : (i : ℕ) → i < n → has (entryOf (getD w i []) .held) c ≡ true → holder (getD (getD w i []) 0 0) ≡ holderIn c (from i) v
   unfolding holderIn
-  held-here i l e = rw (here i l, e)
+  held-here i l e = rw (here i l, e, id-at (getD w i []))
 
   -- one that does not is passed over
-  pub not-here : (i : ℕ) → i < n → has (getD hs i noEntry .held) c ≡ false → holderIn c (from i) v ≡ holderIn c (from (i + 1)) v
+  pub not-here : (i : ℕ) → i < n → has (entryOf (getD w i []) .held) c ≡ false → holderIn c (from i) v ≡ holderIn c (from (i + 1)) v
   unfolding holderIn
   not-here i l e = rw (add-one i, here i l, e)
 
   pub none-holds : (i : ℕ) → n ≤ i → v ≡ holderIn c (from i) v
   unfolding holderIn
-  none-holds i l = rw (drop-of-length-le (take n hs) {i = i} (omega (arith, length-take n hs)))
+  none-holds i l = rw (drop-of-length-le (map entryOf (take n w)) {i = i} (omega (arith, in-slots w n fits)))
 
 -- the answer that the best default makes
 pub default-found : (c : ℕ) (ps : List Program) (b : Best) → ranked b ≡ bestDefault c 0 ps → b .found ≡ true → default (b .number) ≡ defaultFor (bestDefault c 0 ps)

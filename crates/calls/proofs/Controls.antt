@@ -5,7 +5,8 @@ use native.Mathlib.Nat.{one-mul, pow-suc, div-eq-of-lt}
 use native.Mathlib.Omega.{arith}
 use mathlib.Core.Bool.{Bool, true, false, and-true, and-false, or-true}
 use mathlib.Core.List.{List}
-use lib.ListN.{length, getD, List·getD-eq-default}
+use lib.ListN.{length, getD, set, List·getD-eq-default}
+use lib.Seq.{getD-set-same, getD-set-other}
 use lib.Pow.{pow-add, pow-lt, shl-shr}
 use lib.Bits.{bitAnd, bitOr, and-shr, and-mod}
 use lib.Dec.{ltb}
@@ -14,6 +15,7 @@ use borrow.Author.Count.{below-more}
 use Rattle.rules.specs.Records.{has, cut, join}
 use Rattle.rules.proofs.Tests.{both}
 use Rattle.rules.proofs.Masks.{has-cut, has-join, has-none, cut-apart}
+use Rattle.calls.specs.Columns.{Gives}
 use Rattle.calls.specs.Settled.{HasAt, Contested}
 
 -- what is too small for a control has it not
@@ -70,11 +72,30 @@ has-long ms i k h = go (ltb i (length ms)) refl
 abbrev pub Covers : List ℕ → ℕ → ℕ → Type 0
 Covers ms n m = (i : ℕ) → i < n → (k : ℕ) → HasAt ms i k → has m k ≡ true
 
-pub covers-more : (ms : List ℕ) (i seen : ℕ) → Covers ms i seen → Covers ms (i + 1) (bitOr seen (getD ms i 0))
-unfolding join
-covers-more ms i seen h = below-more _ i (λ j l k e. rw (has-join, h j l k e)) (λ k e. rw (has-join, e, or-true))
+-- A place more is filled.
 
-pub contested-more : (ms : List ℕ) (i seen twice : ℕ) → Covers ms i seen → Contested ms i twice → Contested ms (i + 1) (bitOr twice (bitAnd seen (getD ms i 0)))
-unfolding join
-contested-more ms i seen twice s h =
-    below-more _ i (λ j l o p k e f. rw (has-join, h j l o p k e f)) (λ o p k e f. rw (has-join, has-and seen (getD ms i 0) k (s o p k f) e, or-true))
+module _ (ms : List ℕ) (i m : ℕ) (l : i < length ms) where
+  abbrev put : List ℕ
+  put = set ms i m
+
+  there : getD put i 0 ≡ m
+  there = getD-set-same ms i m 0 l
+
+  before : (j : ℕ) → j < i → getD put j 0 ≡ getD ms j 0
+  before j q = getD-set-other ms i j m 0 (λ e. omega arith)
+
+  pub covers-more : (seen : ℕ) → Covers ms i seen → Covers put (i + 1) (bitOr seen m)
+  unfolding join
+  covers-more seen h = below-more _ i (λ j q k e. rw (has-join, h j q k (rw (before j q) at e))) (λ k e. rw (has-join, rw there at e, or-true))
+
+  pub contested-more : (seen twice : ℕ) → Covers ms i seen → Contested ms i twice → Contested put (i + 1) (bitOr twice (bitAnd seen m))
+  unfolding join
+  contested-more seen twice s h =
+      below-more _ i
+      (λ j q o p k e f. rw (has-join, h j q o p k (rw (before j q) at e) (rw (before o (omega arith)) at f)))
+      (λ o p k e f. rw (has-join, has-and seen m k (s o p k (rw (before o p) at f)) (rw there at e), or-true))
+
+  -- where the places have codes: the set of them
+  pub gives-more : (given : ℕ) → Gives i ms given → Gives (i + 1) put (bitOr given (2 ^ m))
+  unfolding join
+  gives-more given g = below-more _ i (λ j q. rw (before j q, has-join, g j q)) (rw (there, has-join, has-self m, or-true))

@@ -4,6 +4,8 @@ pub mod Puts
 pub mod Undropped
 pub mod Reached
 pub mod Columned
+pub mod Slots
+pub mod Laid
 pub mod Moment
 pub mod Keys
 pub mod Controls
@@ -14,12 +16,15 @@ pub mod Finishing
 pub mod Advancing
 pub mod Answers
 pub mod Places
+pub mod Placing
+pub mod Acting
+pub mod Returned
+pub mod Clocked
 pub mod Shifts
-pub mod Stored
-pub mod Adding
 pub mod Asking
 pub mod Framed
 pub mod Ends
-pub mod Running
 pub mod Said
+pub mod Longest
+pub mod Running
 pub mod Progress

@@ -19,7 +19,7 @@ use Rattle.rules.specs.Rows.{codeAt, rowOf, rowsWith, rowsFrom, rowsAt}
 use Rattle.rules.specs.Moments.{lasts}
 use Rattle.rules.proofs.Jump.{Idle}
 use Rattle.rules.proofs.ListLaws.{in-keep}
-use Rattle.calls.specs.declared.columns.Columns.{Columns}
+use Rattle.calls.specs.Held.{Columns}
 use Rattle.calls.specs.Columns.{claimOf, codeOf, Claims, Codes, nearest, nextOf, rowIf, codedRows, momentRows}
 use Rattle.calls.specs.Held.{Columned}
 use Rattle.calls.specs.Settled.{Claimant, claimants, takenFrom, settled}

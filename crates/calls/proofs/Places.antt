@@ -4,32 +4,17 @@ use mathlib.Core.Logic.{inl, inr}
 use mathlib.Core.Bool.{Bool, true, false, cond}
 use mathlib.Core.List.{List, [], _∷_}
 use mathlib.Core.Option.{none, some}
-use Prim.Native.Nat.{ℕ, zero, suc, _<_, _≤_}
+use Prim.Native.Nat.{ℕ, zero, suc, _<_}
 use native.Mathlib.Omega.{arith}
 use borrow.Author.Tests.{eq-eqb, ne-eqb}
-use lib.ListN.{length, getD, take}
-use lib.Seq.{length-take-le, getD-take}
+use lib.ListN.{getD}
 use Rattle.rules.specs.declared.Entry.{Entry}
-use Rattle.rules.specs.declared.Schedule.{Schedule}
 use Rattle.rules.specs.Lists.{All, Pairwise}
-use Rattle.rules.specs.Records.{mostEvents, noEntry, view}
-use Rattle.rules.specs.Sound.{sound}
+use Rattle.rules.specs.Records.{noEntry}
 use Rattle.rules.specs.Refusals.{find}
 use Rattle.rules.specs.Calls.{entryId}
-use Rattle.rules.proofs.SoundState.{ById, rules, sound-view, in-count}
-use Rattle.calls.specs.declared.events.Place.{Place}
+use Rattle.rules.proofs.SoundState.{ById}
 use Rattle.calls.specs.Found.{Placed, Found}
-
--- a place among all entries is one among those in use
-pub in-use : (es : List Entry) (n i at : ℕ) → n ≤ length es → at ≤ n
-    → ((k : ℕ) → k < at → entryId (getD es k noEntry) < i) → (at < n → i ≤ entryId (getD es at noEntry)) → Placed (take n es) i at
-in-use es n i at r w b f =
-    let long = length-take-le n es r in
-    record {
-      within = omega arith;
-      below = λ k l. rw (getD-take n es k noEntry (omega arith)) (b k l);
-      from = λ l. rw (getD-take n es at noEntry (omega arith)) (f (omega arith));
-    }
 
 module _ (i : ℕ) where
   -- the place as those behind the first entry have it
@@ -45,7 +30,8 @@ module _ (i : ℕ) where
   find-above [] a = refl
   find-above (x ∷ xs) a = rw (ne-eqb (entryId x) i (λ e. let l = a x (inl refl) in omega arith)) (find-above xs (λ h m. a h (inr m)))
 
-  find-at : (hs : List Entry) (at : ℕ) (b : Bool) → Pairwise ById hs → Found hs i (record { at = at; held = b })
+  -- so it is found there or nowhere
+  pub find-at : (hs : List Entry) (at : ℕ) (b : Bool) → Pairwise ById hs → Found hs i (record { at = at; held = b })
       → find i hs ≡ cond b (some (getD hs at noEntry)) none
   unfolding find
   find-at [] at true s p = absurd (omega (arith, p .held refl .0))
@@ -62,10 +48,3 @@ module _ (i : ℕ) where
         held = λ e. (omega (arith, p .held e .0), p .held e .1);
         free = λ e m. p .free e (omega arith);
       }))
-
-module _ (s : Schedule) (e : sound s ≡ true) where
-  pub found : {i : ℕ} {p : Place} → Found (view s .entries) i p → find i (view s .entries) ≡ cond (p .held) (some (getD (view s .entries) (p .at) noEntry)) none
-  found {i} {p} f = find-at i (view s .entries) (p .at) (p .held) (sound-view s e .ids) f
-
-  pub inside : {i : ℕ} {p : Place} → Found (view s .entries) i p → p .held ≡ true → (p .at < s .count) × (s .count ≤ mostEvents)
-  inside f h = (omega (arith, f .held h .0, in-count s e), rules s e .count)

@@ -1,6 +1,7 @@
 -- Bytes written one after the other, and rows.
 use mathlib.Core.Path.{_≡_, refl, sym, ap, _∙_, subst}
 use Prim.Native.Nat.{ℕ, zero, suc, _+_, _-_, _*_, _/_, _%_, _<_, _≤_}
+use mathlib.Core.Bool.{false}
 use mathlib.Core.List.{List, [], _∷_, _++_, append-assoc, append-nil}
 use native.Mathlib.Nat.{mod-eq-of-lt}
 use native.Mathlib.Numerals.{add-one}
@@ -8,11 +9,13 @@ use native.Mathlib.Omega.{arith}
 use borrow.Author.Tests.{eq-eqb, ne-eqb}
 use lib.ListN.{length, take, getD, set, length-set, length-append}
 use lib.Seq.{take-suc-set}
+use Rattle.rules.specs.Records.{has}
 use Rattle.rules.specs.Rows.{Row}
 use Rattle.rules.specs.Bytes.{big, flat, rowBytes, bytes}
 use Rattle.rules.proofs.Numbers.{big-length}
 use Rattle.rules.proofs.RowBytes.{bytes-append}
-use Rattle.calls.specs.Columns.{rowIf, codedRows, Put, Written}
+use Rattle.rules.proofs.Tests.{both}
+use Rattle.calls.specs.Columns.{Gives, rowIf, codedRows, Put, Written}
 
 module _ {l : List ℕ} {at : ℕ} where
   pub none : Put l at [] l
@@ -105,3 +108,10 @@ module _ (t k : ℕ) (ids codes : List ℕ) where
       → Written new at next to (rowIf t k (getD ids i 0) (getD codes i 0)) → Written old from next to (codedRows t k (i + 1) ids codes)
   unfolding codedRows
   coded-next i p q = rw (add-one i) (rows-then p q)
+
+  -- a code that is not among those given has no row
+  pub coded-none : (n given : ℕ) → Gives n codes given → has given k ≡ false → codedRows t k n ids codes ≡ []
+  unfolding codedRows
+  coded-none zero given g e = refl
+  coded-none (suc n) given g e =
+      rw (coded-none n given (λ i l. g i (omega arith)) e, ne-eqb (getD codes n 0) k (λ q. both _ (g n (omega arith)) (ap (has given) q ∙ e)))

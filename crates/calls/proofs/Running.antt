@@ -11,7 +11,7 @@ use lib.Seq.{drop-drop, length-take-le}
 use Rattle.rules.specs.declared.Schedule.{Schedule}
 use Rattle.rules.specs.declared.Line.{Line}
 use Rattle.rules.specs.declared.Line.the-variants.{Good, Bad}
-use Rattle.rules.specs.Lists.{over, overAt}
+use Rattle.rules.specs.Lists.{over}
 use Rattle.rules.specs.Sound.{sound}
 use Rattle.rules.specs.Calls.{count}
 use Rattle.rules.specs.Frames.{lineOf, frameCall}
@@ -19,6 +19,11 @@ use Rattle.rules.specs.Printed.{room, tellFrame, tellLine, tell}
 use Rattle.rules.proofs.Over.{over-then, over-size}
 use Rattle.rules.proofs.SoundKept.{sound-call}
 use Rattle.calls.specs.Lines.{longer, endedOf, upTo, Run, runs, RunOutcome, ranInto}
+use Rattle.text.specs.Texts.{mostText}
+use Rattle.calls.specs.declared.lines.Telling.{Telling}
+use Rattle.calls.specs.Slots.{scheduleOf}
+use Rattle.calls.specs.Says.{Says}
+use Rattle.calls.proofs.Longest.{tell-length}
 use Rattle.calls.proofs.Ends.{ended-first, ended-none, up-to-within}
 
 -- a line leaves a sound schedule
@@ -92,30 +97,32 @@ module _ {first : Schedule} {lines old : List ℕ} {s : Schedule} {from at : ℕ
           let v : from + suc (upTo (drop from lines)) ≡ end + 1 = omega arith in
           rw (ended-first (drop from lines) (omega (arith, length-drop from lines)), drop-drop, v, u)
 
-      pub running-stop : length old - at < length (tell s l .text)
+      pub running-stop : length old - at < mostText
           → record { number = 0; value = count at; state = s; read = from; bytes = new } ≡ ranInto (runs (length old) first (endedOf lines)) old
       unfolding runs
-      running-stop g = running-all (rw (next, lt-leb (length (tell s l .text)) (length old - at) g))
+      running-stop g = running-all (rw (next, lt-leb mostText (length old - at) g))
 
-      pub running-more : {n : ℕ} {state : Schedule} {newer : List ℕ} → n ≡ length (tell s l .text) → n ≤ length old - at → state ≡ tell s l .state
-          → newer ≡ overAt at (tell s l .text) new → Running first lines old state (end + 1) (at + n) newer
+      pub running-more : {told : Telling} {w : List (List ℕ)} {rows newer : List ℕ} → mostText ≤ length old - at → Says s l new at told w rows newer
+          → Running first lines old (scheduleOf (told .head) w) (end + 1) (told .behind) newer
       unfolding runs
-      running-more {n} {state} {newer} is-n g is-state is-newer =
+      running-more {told} {w} {rows} {newer} g says =
           let t = tell s l .text in
+          let short = tell-length s l in
+          let put = says .text .end in
           let none : 0 + length (r .text) ≡ length (r .text) = omega arith in
-          let left : length old - at - length t ≡ length old - (at + n) = omega arith in
+          let left : length old - at - length t ≡ length old - told .behind = omega arith in
           let size : length l ≡ end - from = length-take-le (end - from) (drop from lines) (omega (arith, length-drop from lines)) in
           let read : from + suc (length l) ≡ end + 1 = omega arith in
-          let more = runs (length old - (at + n)) state (endedOf (drop (end + 1) lines)) in
+          let more = runs (length old - told .behind) (scheduleOf (told .head) w) (endedOf (drop (end + 1) lines)) in
           let step : runs (length old - at) s (l ∷ endedOf (drop (end + 1) lines)) ≡ after (suc (length l)) t more =
-          rw (le-leb (length t) (length old - at) (omega arith), left, is-state) in
+          rw (le-leb mostText (length old - at) g, left, says .state) in
           record {
             text = r .text ++ t;
-            is-sound = rw is-state (sound-told s (r .is-sound) l);
+            is-sound = rw (says .state) (sound-told s (r .is-sound) l);
             within = omega arith;
             size = simp length-append (omega (arith, r .size));
             fits = omega (arith, r .fits);
-            stands = is-newer ∙ rw (r .stands, r .size) (rw none at (over-then 0 (r .text) t old (omega arith)));
+            stands = says .text .is ∙ rw (r .stands, r .size) (rw none at (over-then 0 (r .text) t old (omega arith)));
             rest = r .rest ∙ ap (after from (r .text)) (rw next step) ∙ rw read at (after-after from (suc (length l)) (r .text) t more);
           }
 
@@ -139,7 +146,7 @@ unfolding runs total
 runs-total room s [] = omega arith
 runs-total room s (l ∷ ls) =
     let o = tell s l in
-    by (leb (length (o .text)) room) (runs-total (room - length (o .text)) (o .state) ls)
+    by (leb mostText room) (runs-total (room - length (o .text)) (o .state) ls)
   where
     by : (t : Bool) → runs (room - length (tell s l .text)) (tell s l .state) ls .read ≤ total ls
         → cond t (after (suc (length l)) (tell s l .text) (runs (room - length (tell s l .text)) (tell s l .state) ls)) (record { state = s; read = 0; text = [] }) .read ≤ suc (length l) + total ls

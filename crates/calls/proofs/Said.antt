@@ -1,65 +1,104 @@
--- The text of a line: that of its frame's call, and how many rows there are in it at the most.
-use mathlib.Core.Path.{_≡_, refl, sym, ap, _∙_}
-use Prim.Native.Nat.{ℕ, _+_, _≤_}
-use mathlib.Core.Bool.{Bool, true, false, cond, not}
-use mathlib.Core.List.{List, [], _∷_}
+-- The text of a line: what a frame's call gives, and how many rows there are in it at the most.
+use mathlib.Core.Path.{_≡_, refl, sym, ap, ap₂, _∙_}
+use Prim.Native.Nat.{ℕ, zero, suc, _+_, _*_, _<_, _≤_}
+use mathlib.Core.Bool.{Bool, true, false, cond, not, _&&_}
+use mathlib.Core.List.{List, [], _∷_, _++_}
 use mathlib.Core.Option.{Option, none, some}
 use native.Mathlib.Omega.{arith}
-use borrow.Author.Tests.{le-leb}
-use lib.Dec.{eqb}
-use borrow.Author.Tests.{not-false}
-use lib.ListN.{length, take, drop, length-take}
-use lib.Seq.{take-at, length-take-le}
+use borrow.Author.Tests.{not-false, eq-eqb, le-leb}
+use lib.Dec.{leb, eqb}
+use lib.ListN.{length, take, getD}
+use lib.Seq.{getD-take}
 use Rattle.rules.specs.declared.Entry.{Entry}
+use Rattle.rules.specs.declared.Event.{Event}
+use Rattle.rules.specs.declared.Id.{Id}
 use Rattle.rules.specs.declared.Schedule.{Schedule}
 use Rattle.rules.specs.declared.Frame.{Frame}
 use Rattle.rules.specs.declared.Frame.the-variants as frame
-use Rattle.rules.specs.Records.{idOf, has, view}
+use Rattle.rules.specs.Records.{mostEvents, idOf, has, view}
+use Rattle.rules.specs.Bytes.{read}
 use Rattle.rules.specs.Sound.{sound}
 use Rattle.rules.specs.Refusals.{find}
-use Rattle.rules.specs.Calls.{Value, nobody, Ranked, Call, addProgram, deliver, cancel, setClock, ask, list, cancelCode, received, bestDefault, defaultFor, holderIn, answerFor, counted, does, refusal, accepts, accepted, refused, call}
+use Rattle.rules.specs.Calls.{Value, Ranked, Call, addProgram, deliver, cancel, setClock, ask, list, cancelCode, received, bestDefault, defaultFor, holderIn, answerFor, counted, numberOf, valueOf, does, refusal, accepts, accepted, refused, Outcome, call}
 use Rattle.rules.specs.declared.Line.the-variants.{Good, Bad}
 use Rattle.rules.specs.Frames.{lineOf, frameCall}
-use Rattle.rules.specs.Printed.{refusedText, frameText, room, Told, tellFrame, tell}
+use Rattle.rules.specs.Printed.{refusedText, threeText, codeText, rowsText, askText, frameText, room, tellFrame, tell}
 use Rattle.rules.proofs.Tests.{first-not}
 use Rattle.rules.proofs.SoundState.{sound-view}
 use Rattle.rules.proofs.Bound.{few-rows}
-use Rattle.calls.specs.Lines.{frameOutcome}
+use Rattle.calls.specs.declared.Acted.{Acted}
+use Rattle.calls.specs.Answered.{Acts}
+use Rattle.calls.specs.Advanced.{Reads}
+use Rattle.calls.specs.Says.{ActsOn, Says}
 use Rattle.calls.specs.declared.lines.Telling.{Telling}
-use Rattle.text.specs.Texts.{Stands, ifRoom}
-use Rattle.calls.specs.Says.{Says}
+use Rattle.calls.specs.Slots.{scheduleOf}
+use Rattle.text.specs.Texts.{Stands, mostText, ifRoom}
 
--- what is read of a call's bytes is what its frame leaves
-pub frame-text : (s : Schedule) (clock : ℕ) (f : Frame) (b : List ℕ) → frameText clock f (frameOutcome s f b) ≡ frameText clock f (call s (frameCall f b))
-unfolding frameOutcome
-frame-text s clock (frame.Event e) b = refl
-frame-text s clock (frame.Cancel i) b = refl
-frame-text s clock (frame.Clock t) b = refl
-frame-text s clock (frame.Program n p d) b = refl
-frame-text s clock (frame.Ask c) b = refl
+-- Rows are read off the front of a buffer alone.
 
--- a text that was put at the front stands there
-pub put-front : {old text new : List ℕ} {n : ℕ} → Stands old 0 text new n → (n ≡ length text) × (take n new ≡ text)
-put-front {old} {text} {new} {n} p =
-    let e : n ≡ length text = omega (arith, p .end) in
-    (e, rw (p .is, e) (take-at text (drop (length text) old) (length text) refl))
+module _ (a b : List ℕ) where
+  -- the same numbers below a place
+  abbrev Alike : ℕ → Type 0
+  Alike m = (j : ℕ) → j < m → getD a j 0 ≡ getD b j 0
 
-pub says : {s : Schedule} {l old new : List ℕ} {r : Telling} (o : Told) → tell s l ≡ o → Stands old 0 (o .text) new (r .length) → r .schedule ≡ o .state → Says s l new r
-says o e p q = let f = put-front p in record { state = rw e q; count = rw e (f .0); front = rw e (f .1) }
+  read-same : (n at : ℕ) → Alike (at + n) → read n at a ≡ read n at b
+  unfolding read
+  read-same zero at s = refl
+  read-same (suc n) at s = ap₂ (λ x y. x * 256 + y) (read-same n at (λ j l. s j (omega arith))) (s (at + n) (omega arith))
 
--- the text stands within the buffer
-pub front-within : {s : Schedule} {l text : List ℕ} {r : Telling} → Says s l text r → r .length ≤ length text
-front-within {text = text} {r} h = omega (arith, h .count, ap length (h .front), length-take (r .length) text)
+  rows-same : (n at : ℕ) → Alike (at + 17 * n) → rowsText n at a ≡ rowsText n at b
+  unfolding rowsText
+  rows-same zero at s = refl
+  rows-same (suc n) at s =
+      let time = read-same 8 at (λ j l. s j (omega arith)) in
+      let id = read-same 8 (at + 8) (λ j l. s j (omega arith)) in
+      let code = read-same 1 (at + 16) (λ j l. s j (omega arith)) in
+      ap₂ _++_ (λ i. threeText (time i) (id i) (code i)) (rows-same n (at + 17) (λ j l. s j (omega arith)))
 
-pub front-length : {s : Schedule} {l text : List ℕ} {r : Telling} → Says s l text r → length (take (r .length) text) ≡ r .length
-front-length {text = text} {r} h = length-take-le (r .length) text (front-within h)
+  pub rows-front : (n : ℕ) → take (17 * n) a ≡ take (17 * n) b → rowsText n 0 a ≡ rowsText n 0 b
+  rows-front n e = rows-same n 0 (λ j l. let m : j < 17 * n = omega arith in sym (getD-take (17 * n) a j 0 m) ∙ ap (λ z. getD z j 0) e ∙ getD-take (17 * n) b j 0 m)
 
--- a line's text, put where there is room for it
-pub put-there : {s : Schedule} {line text : List ℕ} {r : Telling} {l m : List ℕ} {at k : ℕ} → Says s line text r
-    → Stands l at (ifRoom (length (take (r .length) text)) at l (take (r .length) text)) m k → at + r .length ≤ length l → Stands l at (tell s line .text) m k
-put-there {text = text} {r} {l} {m} {at} h s f =
-    let t = take (r .length) text in
-    rw (h .front) at (rw (le-leb (at + length t) (length l) (omega (arith, front-length h))) at s)
+-- A frame's call.
+
+module _ {s : Schedule} {r : Acted} {w : List (List ℕ)} {rows : List ℕ} where
+  -- a call whose text hangs on its value alone
+  on : (f : Frame) (T : ℕ → Value → List ℕ) → ((clock : ℕ) (o : Outcome) → frameText clock f o ≡ T clock (o .value)) → length rows ≡ 1632 → Acts r w [] (call s (frameCall f room)) → ActsOn s f r w rows
+  on f T is long a =
+      let v = ap (λ (o : Outcome). o .value) (a .outcome) in
+      record {
+        size = a .size;
+        count = a .count;
+        long = long;
+        number = ap (λ (o : Outcome). o .number) (a .outcome);
+        value = v;
+        state = ap (λ (o : Outcome). o .state) (a .outcome);
+        text = λ clock o p q. is clock o ∙ ap (T clock) (p ∙ v) ∙ sym (is clock (call s (frameCall f room)));
+      }
+
+  pub on-event : (e : Event) → length rows ≡ 1632 → Acts r w [] (call s (deliver e)) → ActsOn s (frame.Event e) r w rows
+  on-event e = on (frame.Event e) (λ clock. codeText clock (idOf e)) (λ clock o. refl)
+
+  pub on-cancel : (i : Id) → length rows ≡ 1632 → Acts r w [] (call s (cancel (i .value))) → ActsOn s (frame.Cancel i) r w rows
+  on-cancel i = on (frame.Cancel i) (λ clock. codeText clock (i .value)) (λ clock o. refl)
+
+  pub on-program : (n p d : ℕ) → length rows ≡ 1632 → Acts r w [] (call s (addProgram n p d)) → ActsOn s (frame.Program n p d) r w rows
+  on-program n p d = on (frame.Program n p d) (λ clock v. []) (λ clock o. refl)
+
+  pub on-ask : (c : ℕ) → length rows ≡ 1632 → Acts r w [] (call s (ask c)) → ActsOn s (frame.Ask c) r w rows
+  on-ask c = on (frame.Ask c) (λ clock. askText c) (λ clock o. refl)
+
+  pub on-clock : (t : ℕ) → Reads s t r w rows → ActsOn s (frame.Clock t) r w rows
+  on-clock t a = record {
+    size = a .size;
+    count = a .count;
+    long = a .long;
+    number = a .number room refl;
+    value = a .value room refl;
+    state = a .state room refl;
+    text = λ clock o p q.
+        let v : counted (o .value) ≡ counted (call s (setClock t room) .value) = ap counted (p ∙ a .value room refl) in
+        ap₂ (λ n b. rowsText n 0 b) v q ∙ rows-front rows (call s (setClock t room) .bytes) (counted (call s (setClock t room) .value)) (a .written room refl);
+  }
 
 module _ (s : Schedule) (l : List ℕ) where
   pub tell-bad : Bad ≡ lineOf l → tell s l ≡ record { state = s; text = refusedText 1 }
@@ -69,12 +108,6 @@ module _ (s : Schedule) (l : List ℕ) where
   pub tell-good : (f : Frame) → Good f ≡ lineOf l → tell s l ≡ tellFrame s f
   unfolding tell
   tell-good f e = rw (← e)
-
--- the text that a frame's outcome gives
-pub tell-text : (s : Schedule) (f : Frame) → let o = frameOutcome s f room in
-    cond (eqb (o .number) 0) (frameText (s .clock) f o) (refusedText (o .number)) ≡ tellFrame s f .text
-unfolding frameOutcome tellFrame
-tell-text s f = rw (frame-text s (s .clock) f room)
 
 -- the count of a call that was accepted, on a schedule that is sound then, or of none
 from-done : (s : Schedule) (c : Call) → (sound s ≡ true → counted (does (view s) c .value) ≤ 96) → counted (call s c .value) ≤ 96
@@ -120,6 +153,32 @@ call-counted s (setClock t b) = from-done s (setClock t b) (λ e. few-rows s e t
 call-counted s (ask c) = from-done s (ask c) (λ e. holder-counted c (view s .entries) _ (default-counted (bestDefault c 0 (s .programs))))
 call-counted s (list r) = from-done s (list r) (λ e. omega (arith, sound-view s e .room))
 
-pub few-counted : (s : Schedule) (f : Frame) (b : List ℕ) → counted (frameOutcome s f b .value) ≤ 96
-unfolding frameOutcome
-few-counted s f b = call-counted s (frameCall f b)
+-- A line.
+
+module _ (s : Schedule) (l : List ℕ) {old new : List ℕ} {at : ℕ} {w : List (List ℕ)} {rows : List ℕ} (fits : at + mostText ≤ length old) where
+  pub says-bad : (r : Telling) → Bad ≡ lineOf l → length w ≡ mostEvents → r .head .count ≤ mostEvents → length rows ≡ 1632 → scheduleOf (r .head) w ≡ s
+      → Stands old at (ifRoom 29 at old (refusedText 1)) new (r .behind) → Says s l old at r w rows new
+  says-bad r e size count long same p = record {
+    size = size;
+    count = count;
+    long = long;
+    state = rw (tell-bad s l e) same;
+    text = rw (tell-bad s l e) (rw (le-leb (at + 29) (length old) (omega arith)) at p);
+  }
+
+  pub says-good : (f : Frame) → Good f ≡ lineOf l → (a : Acted) → ActsOn s f a w rows → (behind : ℕ)
+      → ((o : Outcome) → o .number ≡ numberOf (a .answer) → o .value ≡ valueOf (a .answer) → o .bytes ≡ rows
+      → Stands old at (cond (eqb (length rows) 1632 && leb (counted (o .value)) 96) (ifRoom mostText at old (cond (eqb (o .number) 0) (frameText (s .clock) f o) (refusedText (o .number)))) []) new behind)
+      → Says s l old at (record { head = a .head; behind = behind }) w rows new
+  unfolding tellFrame
+  says-good f e a t behind told =
+      let o : Outcome = record { number = numberOf (a .answer); value = valueOf (a .answer); state = s; bytes = rows; records = [] } in
+      let few : counted (valueOf (a .answer)) ≤ 96 = rw (t .value) (call-counted s (frameCall f room)) in
+      record {
+        size = t .size;
+        count = t .count;
+        long = t .long;
+        state = rw (tell-good s l f e) (t .state);
+        text = rw (tell-good s l f e)
+            (rw (eq-eqb (length rows) 1632 (t .long), le-leb (counted (valueOf (a .answer))) 96 few, le-leb (at + mostText) (length old) fits, t .text (s .clock) o refl refl, t .number) at (told o refl refl refl));
+      }

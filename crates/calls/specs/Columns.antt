@@ -1,12 +1,45 @@
--- The clock call over columns of plain numbers: what each function under it promises.
+-- The clock call over slots and columns of plain numbers: what each function under it promises.
 use mathlib.Core.Path.{_≡_}
 use Prim.Native.Nat.{ℕ, zero, suc, _+_, _*_, _<_, _≤_, min}
-use mathlib.Core.Bool.{Bool, false, cond, not, _||_}
-use mathlib.Core.List.{List, [], _∷_, _++_}
+use mathlib.Core.Bool.{Bool, true, false, cond, not, _||_}
+use mathlib.Core.List.{List, [], _∷_, _++_, map}
 use lib.Dec.{leb, ltb, eqb}
 use lib.ListN.{length, take, getD}
+use Rattle.rules.specs.declared.Program.{Program}
+use Rattle.rules.specs.Records.{idOf, has, programAt}
+use Rattle.rules.specs.Holding.{endOf}
 use Rattle.rules.specs.Rows.{Row}
 use Rattle.rules.specs.Bytes.{bytes}
+use Rattle.calls.specs.Slots.{entryOf}
+
+-- what the slots have, column by column
+unfoldable pub stoppedOf : List (List ℕ) → List Bool
+stoppedOf w = map (λ r. entryOf r .cancelled) w
+
+unfoldable pub beginsOf : List (List ℕ) → List ℕ
+beginsOf w = map (λ r. entryOf r .begins) w
+
+unfoldable pub controlsOf : List (List ℕ) → List ℕ
+controlsOf w = map (λ r. entryOf r .event .controls) w
+
+unfoldable pub primaciesOf : List Program → List (List ℕ) → List ℕ
+primaciesOf ps w = map (λ r. programAt ps (entryOf r .event .program) .primacy) w
+
+unfoldable pub createdOf : List (List ℕ) → List ℕ
+createdOf w = map (λ r. entryOf r .event .created) w
+
+unfoldable pub idsOf : List (List ℕ) → List ℕ
+idsOf w = map (λ r. idOf (entryOf r .event)) w
+
+-- the events of the first n slots have programs
+abbrev pub Numbered : ℕ → List (List ℕ) → Type 0
+Numbered n w = (k : ℕ) → k < n → entryOf (getD w k []) .event .program < 8
+
+-- two columns that are worked out for the first n slots: effective end and held mask
+pub record Dated (n : ℕ) (w : List (List ℕ)) (ends held : List ℕ) : Type 0 where
+  pub long : (length ends ≡ 48) × (length held ≡ 48)
+  pub dated : (k : ℕ) → k < n → getD ends k 0 ≡ endOf (entryOf (getD w k []))
+  pub masks : (k : ℕ) → k < n → getD held k 0 ≡ entryOf (getD w k []) .held
 
 -- `claim` of the fields that it looks at
 unfoldable pub claimOf : ℕ → Bool → ℕ → ℕ → ℕ → ℕ → ℕ
@@ -29,6 +62,10 @@ pub record Claims (t n : ℕ) (stopped : List Bool) (ends begins controls held c
 pub record Codes (t n : ℕ) (stopped : List Bool) (ends begins held kept codes : List ℕ) : Type 0 where
   pub size : length codes ≡ 48
   pub each : (k : ℕ) → k < n → getD codes k 0 ≡ codeOf t (getD stopped k false) (getD ends k 0) (getD begins k 0) (getD held k 0) (getD kept k 0)
+
+-- each code that one of the first n gives is in the set
+abbrev pub Gives : ℕ → List ℕ → ℕ → Type 0
+Gives n codes given = (k : ℕ) → k < n → has given (getD codes k 0) ≡ true
 
 -- the nearer of two moments after the clock
 unfoldable pub nearest : ℕ → ℕ → ℕ → ℕ

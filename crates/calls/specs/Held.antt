@@ -6,10 +6,34 @@ use mathlib.Core.List.{List}
 use lib.ListN.{length, getD}
 use Rattle.rules.specs.declared.Entry.{Entry}
 use Rattle.rules.specs.declared.Program.{Program}
-use Rattle.rules.specs.declared.Schedule.{Schedule}
 use Rattle.rules.specs.Records.{idOf, noEntry, programAt}
 use Rattle.rules.specs.Holding.{endOf}
-use Rattle.calls.specs.declared.columns.Columns.{Columns}
+use Rattle.calls.specs.Columns.{stoppedOf, beginsOf, controlsOf, primaciesOf, createdOf, idsOf}
+
+-- what the clock call looks at of each held event
+pub record Columns : Type 0 where
+  pub stopped : List Bool
+  pub ends : List ℕ
+  pub begins : List ℕ
+  pub controls : List ℕ
+  pub primacies : List ℕ
+  pub created : List ℕ
+  pub ids : List ℕ
+  pub held : List ℕ
+
+-- the columns of slots; ends and held masks are worked out
+abbrev pub columnsOf : List Program → List (List ℕ) → List ℕ → List ℕ → Columns
+columnsOf ps w ends held =
+    record {
+      stopped = stoppedOf w;
+      ends = ends;
+      begins = beginsOf w;
+      controls = controlsOf w;
+      primacies = primaciesOf ps w;
+      created = createdOf w;
+      ids = idsOf w;
+      held = held;
+    }
 
 -- column by column, what the first n entries have
 pub record Columned (ps : List Program) (hs : List Entry) (n : ℕ) (c : Columns) : Type 0 where
@@ -22,13 +46,8 @@ pub record Columned (ps : List Program) (hs : List Entry) (n : ℕ) (c : Columns
   pub ids : (k : ℕ) → k < n → getD (c .ids) k 0 ≡ idOf (getD hs k noEntry .event)
   pub held : (k : ℕ) → k < n → getD (c .held) k 0 ≡ getD hs k noEntry .held
 
--- all columns have 48 places
+-- the columns that decide between events have 48 places
 pub record Long (c : Columns) : Type 0 where
-  pub stopped : length (c .stopped) ≡ 48
-  pub ends : length (c .ends) ≡ 48
-  pub begins : length (c .begins) ≡ 48
-  pub controls : length (c .controls) ≡ 48
   pub primacies : length (c .primacies) ≡ 48
   pub created : length (c .created) ≡ 48
   pub ids : length (c .ids) ≡ 48
-  pub held : length (c .held) ≡ 48

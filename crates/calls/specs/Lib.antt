@@ -1,4 +1,5 @@
 -- What the functions under the calls promise to each other.
+pub mod Slots
 pub mod Answered
 pub mod Best
 pub mod Found

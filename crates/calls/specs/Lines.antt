@@ -14,6 +14,7 @@ use Rattle.rules.specs.Sound.{sound}
 use Rattle.rules.specs.Calls.{Value, nothing, count, Outcome, numberOf, valueOf, call}
 use Rattle.rules.specs.Frames.{lineOf, frameCall}
 use Rattle.rules.specs.Printed.{Told, tell}
+use Rattle.text.specs.Texts.{mostText}
 use Rattle.calls.specs.declared.Ran as declared
 
 -- a lent buffer after the call of a frame: a clock reading alone writes to it
@@ -60,13 +61,13 @@ pub record Run : Type 0 where
   pub read : ℕ
   pub text : List ℕ
 
--- lines one after the other, each with its line feed, up to the first whose text does not fit
+-- lines one after the other, each with its line feed, as long as there is room for any text
 unfoldable pub runs : ℕ → Schedule → List (List ℕ) → Run
 runs room s [] = record { state = s; read = 0; text = [] }
 runs room s (l ∷ ls) =
     let o = tell s l in
     let rest = runs (room - length (o .text)) (o .state) ls in
-    cond (leb (length (o .text)) room)
+    cond (leb mostText room)
     (record { state = rest .state; read = suc (length l) + rest .read; text = o .text ++ rest .text })
     (record { state = s; read = 0; text = [] })
 

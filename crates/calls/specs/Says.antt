@@ -1,13 +1,33 @@
--- What telling a line leaves: the schedule, and the text at the front of a buffer.
+-- What a frame and a line leave in slots and buffers.
 use mathlib.Core.Path.{_≡_}
-use Prim.Native.Nat.{ℕ}
+use Prim.Native.Nat.{ℕ, _*_, _≤_}
 use mathlib.Core.List.{List}
 use lib.ListN.{length, take}
 use Rattle.rules.specs.declared.Schedule.{Schedule}
-use Rattle.rules.specs.Printed.{tell}
+use Rattle.rules.specs.declared.Frame.{Frame}
+use Rattle.rules.specs.Records.{mostEvents}
+use Rattle.rules.specs.Calls.{Outcome, numberOf, valueOf, call}
+use Rattle.rules.specs.Frames.{frameCall}
+use Rattle.rules.specs.Printed.{room, frameText, tell}
+use Rattle.text.specs.Texts.{Stands}
+use Rattle.calls.specs.declared.Acted.{Acted}
 use Rattle.calls.specs.declared.lines.Telling.{Telling}
+use Rattle.calls.specs.Slots.{scheduleOf}
 
-pub record Says (s : Schedule) (line text : List ℕ) (r : Telling) : Type 0 where
-  pub state : r .schedule ≡ tell s line .state
-  pub count : r .length ≡ length (tell s line .text)
-  pub front : take (r .length) text ≡ tell s line .text
+-- the call of a frame: number, value and schedule are its call's, and the text that is read off the buffer is the same
+pub record ActsOn (s : Schedule) (f : Frame) (r : Acted) (w : List (List ℕ)) (rows : List ℕ) : Type 0 where
+  pub size : length w ≡ mostEvents
+  pub count : r .head .count ≤ mostEvents
+  pub long : length rows ≡ 1632
+  pub number : numberOf (r .answer) ≡ call s (frameCall f room) .number
+  pub value : valueOf (r .answer) ≡ call s (frameCall f room) .value
+  pub state : scheduleOf (r .head) w ≡ call s (frameCall f room) .state
+  pub text : (clock : ℕ) (o : Outcome) → o .value ≡ valueOf (r .answer) → o .bytes ≡ rows → frameText clock f o ≡ frameText clock f (call s (frameCall f room))
+
+-- a line: the schedule, and its text in the buffer from `at` on
+pub record Says (s : Schedule) (line old : List ℕ) (at : ℕ) (r : Telling) (w : List (List ℕ)) (rows new : List ℕ) : Type 0 where
+  pub size : length w ≡ mostEvents
+  pub count : r .head .count ≤ mostEvents
+  pub long : length rows ≡ 1632
+  pub state : scheduleOf (r .head) w ≡ tell s line .state
+  pub text : Stands old at (tell s line .text) new (r .behind)

@@ -1,13 +1,38 @@
-// Setting the clock: from one moment at which something begins or ends to the next, over columns of plain numbers. Nothing is dropped on the way:
-// an event that has ended claims nothing and gives no row, so it is enough to drop it at the last moment.
+// A moment, over slots and columns of plain numbers. Nothing is dropped on the way: an event that has ended claims nothing and gives no row, so it is enough to
+// drop it after the last moment.
 ghost use mathlib.Core.Path.{_≡_};
-ghost use Prim.Native.Nat.{ℕ, _+_, _*_, _-_, _≤_, _<_, min};
-ghost use mathlib.Core.Bool.{Bool, true, false, cond, not, _||_};
-ghost use mathlib.Core.List.{List, [], _∷_, _++_};
-ghost use lib.Dec.{leb, ltb, eqb};
-ghost use lib.ListN.{length, take, getD};
+ghost use Prim.Native.Nat.{ℕ, _+_, _≤_, _<_};
+ghost use mathlib.Core.Bool.{false};
+ghost use mathlib.Core.List.{[]};
+ghost use lib.ListN.{length, getD};
+ghost use Rattle.rules.specs.Records.{mostEvents, has};
 ghost use Rattle.rules.specs.Bytes.{big};
-ghost use Rattle.calls.specs.Columns.{claimOf, codeOf, Claims, Codes, nearest, nextOf, rowIf, codedRows, momentRows, Put, Written};
+ghost use Rattle.calls.specs.Columns.{stoppedOf, beginsOf, controlsOf, idsOf, claimOf, codeOf, Dated, Claims, Codes, Gives, nearest, nextOf, rowIf, codedRows, momentRows, Put, Written};
+ghost use Rattle.calls.specs.Settled.{Contested};
+use crate::held;
+use crate::settle;
+
+// The effective end and the held mask of each of the first n events.
+pub(crate) fn columns_of(
+    slots: &[[u64; 13]; 48],
+    n: usize,
+    ends: &mut [u64; 48],
+    held: &mut [u32; 48],
+)
+    requires { ⌜ (n ≤ 48) × (length (now ends) ≡ 48) × (length (now held) ≡ 48) ⌝ }
+    ensures { λ _. ⌜ Dated n (now (slots .entry)) (now (ends .exit)) (now (held .exit)) ⌝ }
+{
+    let mut i = 0;
+    while i < n {
+        let slot = slots[i];
+        let h = held::entry_of(slot);
+        let e = h.event;
+        let end = e.effective_end();
+        ends[i] = end.time;
+        held[i] = h.held;
+        i += 1;
+    }
+}
 
 // What an event claims at moment t.
 pub(crate) fn claim_of(
@@ -20,13 +45,7 @@ pub(crate) fn claim_of(
 ) -> u32
     ensures { λ r. ⌜ r ≡ claimOf t stopped end begins controls held ⌝ }
 {
-    if stopped {
-        return 0;
-    }
-    if end <= t {
-        return 0;
-    }
-    if t < begins {
+    if stopped | (end <= t) | (t < begins) {
         return 0;
     }
     if begins == t {
@@ -35,17 +54,15 @@ pub(crate) fn claim_of(
     held
 }
 
-// The code that an event gives at moment t; `held` is what it held a second before, `kept` what it holds at t.
+// The code that an event gives at moment t; `held` is what it held a second before, `kept` what it holds at t. The first test is for speed: most events do not
+// begin then, and hold nothing or go on holding.
 pub(crate) fn code_of(t: u64, stopped: bool, end: u64, begins: u64, held: u32, kept: u32) -> u8
     ensures { λ r. ⌜ r ≡ codeOf t stopped end begins held kept ⌝ }
 {
-    if stopped {
+    if (begins != t) & ((held == 0) | ((end != t) & (kept != 0))) {
         return 0;
     }
-    if end < t {
-        return 0;
-    }
-    if t < begins {
+    if stopped | (end < t) | (t < begins) {
         return 0;
     }
     if end == t {
@@ -60,13 +77,10 @@ pub(crate) fn code_of(t: u64, stopped: bool, end: u64, begins: u64, held: u32, k
         }
         return 2;
     }
-    if held == 0 {
+    if (held == 0) | (kept != 0) {
         return 0;
     }
-    if kept == 0 {
-        return 7;
-    }
-    0
+    7
 }
 
 // x if it lies between the clock and the best so far.
@@ -86,64 +100,106 @@ pub(crate) fn nearer(clock: u64, x: u64, best: u64) -> u64
 pub(crate) fn next_moment(
     clock: u64,
     limit: u64,
-    begins: &[u64; 48],
+    slots: &[[u64; 13]; 48],
     ends: &[u64; 48],
     n: usize,
 ) -> u64
-    requires { ⌜ (n ≤ 48) × (length (now begins) ≡ 48) × (length (now ends) ≡ 48) ⌝ }
-    ensures { λ r. ⌜ r ≡ nextOf clock limit n (now (begins .entry)) (now (ends .entry)) ⌝ }
+    requires { ⌜ (n ≤ 48) × (length (now slots) ≡ 48) ⌝ }
+    ensures { λ r. ⌜ r ≡ nextOf clock limit n (beginsOf (now (slots .entry))) (now (ends .entry)) ⌝ }
 {
     let mut t = limit;
     let mut i = 0;
     while i < n {
-        t = nearer(clock, begins[i], nearer(clock, ends[i], t));
+        t = nearer(clock, slots[i][10], nearer(clock, ends[i], t));
         i += 1;
     }
     t
 }
 
-// What each of the first n claims at moment t.
-pub(crate) fn claims_at(
-    t: u64,
-    stopped: &[bool; 48],
-    ends: &[u64; 48],
-    begins: &[u64; 48],
-    controls: &[u32; 48],
-    held: &[u32; 48],
-    n: usize,
-) -> [u32; 48]
-    requires { ⌜ n ≤ 48 ⌝ }
-    ensures { λ r. ⌜ Claims t n (now (stopped .entry)) (now (ends .entry)) (now (begins .entry)) (now (controls .entry)) (now (held .entry)) r ⌝ }
+// What the event in a slot claims at moment t.
+fn claim_at(t: u64, slots: &[[u64; 13]; 48], ends: &[u64; 48], held: &[u32; 48], i: usize) -> u32
+    requires { ⌜ (i < 48) × (length (now slots) ≡ 48) ⌝ }
+    ensures { λ r. ⌜ r ≡ claimOf t (getD (stoppedOf (now (slots .entry))) i false) (getD (now (ends .entry)) i 0) (getD (beginsOf (now (slots .entry))) i 0) (getD (controlsOf (now (slots .entry))) i 0) (getD (now (held .entry)) i 0) ⌝ }
 {
-    let mut out = [0u32; 48];
-    let mut i = 0;
-    while i < n {
-        out[i] = claim_of(t, stopped[i], ends[i], begins[i], controls[i], held[i]);
-        i += 1;
-    }
-    out
+    claim_of(
+        t,
+        slots[i][12] == 1,
+        ends[i],
+        slots[i][10],
+        (slots[i][2] % 0x1_0000_0000) as u32,
+        held[i],
+    )
 }
 
-// The code that each of the first n gives at moment t.
+// What each of the first n claims at moment t; the controls that two or more of them claim.
+pub(crate) fn claims_at(
+    t: u64,
+    slots: &[[u64; 13]; 48],
+    ends: &[u64; 48],
+    held: &[u32; 48],
+    n: usize,
+    claims: &mut [u32; 48],
+) -> u32
+    requires { ⌜ (n ≤ 48) × (length (now slots) ≡ 48) × (length (now claims) ≡ 48) ⌝ }
+    ensures { λ r. ⌜ Claims t n (stoppedOf (now (slots .entry))) (now (ends .entry)) (beginsOf (now (slots .entry))) (controlsOf (now (slots .entry))) (now (held .entry)) (now (claims .exit)) × Contested (now (claims .exit)) n r ⌝ }
+{
+    let mut seen = 0;
+    let mut twice = 0;
+    let mut i = 0;
+    while i < n {
+        let m = claim_at(t, slots, ends, held, i);
+        claims[i] = m;
+        twice |= seen & m;
+        seen |= m;
+        i += 1;
+    }
+    twice
+}
+
+// The code that the event in a slot gives at moment t.
+fn code_at(
+    t: u64,
+    slots: &[[u64; 13]; 48],
+    ends: &[u64; 48],
+    held: &[u32; 48],
+    kept: &[u32; 48],
+    i: usize,
+) -> u8
+    requires { ⌜ (i < 48) × (length (now slots) ≡ 48) ⌝ }
+    ensures { λ r. ⌜ (r ≡ codeOf t (getD (stoppedOf (now (slots .entry))) i false) (getD (now (ends .entry)) i 0) (getD (beginsOf (now (slots .entry))) i 0) (getD (now (held .entry)) i 0) (getD (now (kept .entry)) i 0)) × (r < 32) ⌝ }
+{
+    code_of(
+        t,
+        slots[i][12] == 1,
+        ends[i],
+        slots[i][10],
+        held[i],
+        kept[i],
+    )
+}
+
+// The code that each of the first n gives at moment t; the set of the codes given.
 pub(crate) fn codes_at(
     t: u64,
-    stopped: &[bool; 48],
+    slots: &[[u64; 13]; 48],
     ends: &[u64; 48],
-    begins: &[u64; 48],
     held: &[u32; 48],
     kept: &[u32; 48],
     n: usize,
-) -> [u8; 48]
-    requires { ⌜ n ≤ 48 ⌝ }
-    ensures { λ r. ⌜ Codes t n (now (stopped .entry)) (now (ends .entry)) (now (begins .entry)) (now (held .entry)) (now (kept .entry)) r ⌝ }
+    codes: &mut [u8; 48],
+) -> u32
+    requires { ⌜ (n ≤ 48) × (length (now slots) ≡ 48) × (length (now codes) ≡ 48) ⌝ }
+    ensures { λ r. ⌜ Codes t n (stoppedOf (now (slots .entry))) (now (ends .entry)) (beginsOf (now (slots .entry))) (now (held .entry)) (now (kept .entry)) (now (codes .exit)) × Gives n (now (codes .exit)) r ⌝ }
 {
-    let mut out = [0u8; 48];
+    let mut given = 0;
     let mut i = 0;
     while i < n {
-        out[i] = code_of(t, stopped[i], ends[i], begins[i], held[i], kept[i]);
+        let k = code_at(t, slots, ends, held, kept, i);
+        codes[i] = k;
+        given |= 1 << (k as u32);
         i += 1;
     }
-    out
+    given
 }
 
 // The eight bytes of a number, most significant first, from `at` on.
@@ -189,22 +245,43 @@ pub(crate) fn rows_with(
     rows: &mut [u8; 1632],
     from: usize,
     t: u64,
-    ids: &[u64; 48],
+    slots: &[[u64; 13]; 48],
     codes: &[u8; 48],
     n: usize,
     k: u8,
 ) -> usize
-    requires { ⌜ (n ≤ 48) × (length (now rows) ≡ 1632) ⌝ }
-    requires { ⌜ from + length (codedRows t k n (now ids) (now codes)) ≤ 96 ⌝ }
-    ensures { λ r. ⌜ Written (now (rows .entry)) from (now (rows .exit)) r (codedRows t k n (now (ids .entry)) (now (codes .entry))) ⌝ }
+    requires { ⌜ (n ≤ 48) × (length (now rows) ≡ 1632) × (length (now slots) ≡ 48) ⌝ }
+    requires { ⌜ from + length (codedRows t k n (idsOf (now slots)) (now codes)) ≤ 96 ⌝ }
+    ensures { λ r. ⌜ Written (now (rows .entry)) from (now (rows .exit)) r (codedRows t k n (idsOf (now (slots .entry))) (now (codes .entry))) ⌝ }
 {
     let mut at = from;
     let mut i = 0;
     while i < n {
-        at = add_row(rows, at, t, ids[i], codes[i], k);
+        at = add_row(rows, at, t, slots[i][0], codes[i], k);
         i += 1;
     }
     at
+}
+
+// The same, if the code k is among those given.
+fn rows_if(
+    rows: &mut [u8; 1632],
+    from: usize,
+    t: u64,
+    slots: &[[u64; 13]; 48],
+    codes: &[u8; 48],
+    n: usize,
+    k: u8,
+    given: u32,
+) -> usize
+    requires { ⌜ (n ≤ 48) × (length (now rows) ≡ 1632) × (length (now slots) ≡ 48) × (k < 32) × Gives n (now codes) given ⌝ }
+    requires { ⌜ from + length (codedRows t k n (idsOf (now slots)) (now codes)) ≤ 96 ⌝ }
+    ensures { λ r. ⌜ Written (now (rows .entry)) from (now (rows .exit)) r (codedRows t k n (idsOf (now (slots .entry))) (now (codes .entry))) ⌝ }
+{
+    if settle::is_in(given, k as u32) {
+        return rows_with(rows, from, t, slots, codes, n, k);
+    }
+    from
 }
 
 // The rows of a moment: ends, superseded ones, starts.
@@ -212,15 +289,16 @@ pub(crate) fn rows_at(
     rows: &mut [u8; 1632],
     from: usize,
     t: u64,
-    ids: &[u64; 48],
+    slots: &[[u64; 13]; 48],
     codes: &[u8; 48],
     n: usize,
+    given: u32,
 ) -> usize
-    requires { ⌜ (n ≤ 48) × (length (now rows) ≡ 1632) ⌝ }
-    requires { ⌜ from + length (momentRows t n (now ids) (now codes)) ≤ 96 ⌝ }
-    ensures { λ r. ⌜ Written (now (rows .entry)) from (now (rows .exit)) r (momentRows t n (now (ids .entry)) (now (codes .entry))) ⌝ }
+    requires { ⌜ (n ≤ 48) × (length (now rows) ≡ 1632) × (length (now slots) ≡ 48) × Gives n (now codes) given ⌝ }
+    requires { ⌜ from + length (momentRows t n (idsOf (now slots)) (now codes)) ≤ 96 ⌝ }
+    ensures { λ r. ⌜ Written (now (rows .entry)) from (now (rows .exit)) r (momentRows t n (idsOf (now (slots .entry))) (now (codes .entry))) ⌝ }
 {
-    let a = rows_with(rows, from, t, ids, codes, n, 3);
-    let b = rows_with(rows, a, t, ids, codes, n, 7);
-    rows_with(rows, b, t, ids, codes, n, 2)
+    let a = rows_if(rows, from, t, slots, codes, n, 3, given);
+    let b = rows_if(rows, a, t, slots, codes, n, 7, given);
+    rows_if(rows, b, t, slots, codes, n, 2, given)
 }

@@ -1,38 +1,37 @@
-// Events delivered and cancelled: the place of an id among the entries, the tests in checking order, and the entry stored there.
+// Events delivered and cancelled: the place of an id among the slots, the tests in checking order, and the event stored there.
 ghost use mathlib.Core.Path.{_≡_};
-ghost use mathlib.Core.Bool.{true};
 ghost use mathlib.Core.List.{[], _∷_, _++_, map};
-ghost use mathlib.Core.Option.{none};
 ghost use Prim.Native.Nat.{_+_, _≤_, _<_};
-ghost use lib.ListN.{getD, take, drop};
-ghost use Rattle.rules.specs.Records.{mostEvents, lastClock, idOf, noEntry, view, pad};
-ghost use Rattle.rules.specs.Sound.{sound};
-ghost use Rattle.rules.specs.Refusals.{late, find, firstOf};
-ghost use Rattle.rules.specs.Calls.{call, deliver, cancel, checks, receive, entryId, mark, withEntries};
-ghost use Rattle.calls.specs.Answered.{outcomeOf};
+ghost use lib.ListN.{length, take, drop};
+ghost use Rattle.rules.specs.Records.{mostEvents, lastClock, idOf, view};
+ghost use Rattle.rules.specs.Refusals.{late, firstOf};
+ghost use Rattle.rules.specs.Calls.{call, deliver, cancel, checks};
+ghost use Rattle.calls.specs.Slots.{entryOf, stateOf, scheduleOf, Ready};
+ghost use Rattle.calls.specs.Answered.{Acts};
 ghost use Rattle.calls.specs.Found.{Placed, Found};
-use crate::Answered;
+use crate::Acted;
+use crate::held;
+use crate::held::Head;
 use rules::Answer;
 use rules::Entry;
 use rules::Event;
 use rules::Id;
 use rules::Schedule;
 
-// Where an id stands among the entries or would stand, and whether it is held.
+// Where an id stands among the slots or would stand, and whether it is held.
 struct Place {
     at: usize,
     held: bool,
 }
 
-// How many entries in use have a smaller id.
-fn below(entries: [Entry; Schedule::EVENTS], count: usize, id: u64) -> usize
-    requires { ⌜ count ≤ mostEvents ⌝ }
-    ensures { λ r. ⌜ Placed (take count entries) id r ⌝ }
+// How many of the first n slots have a smaller id.
+fn below(slots: &[[u64; 13]; 48], n: usize, id: u64) -> usize
+    requires { ⌜ (n ≤ mostEvents) × (length (now slots) ≡ mostEvents) ⌝ }
+    ensures { λ r. ⌜ Placed (map entryOf (take n (now (slots .entry)))) id r ⌝ }
 {
     let mut i = 0;
-    while i < count {
-        let h = entries[i];
-        if id <= h.event.id.value {
+    while i < n {
+        if id <= slots[i][0] {
             return i;
         }
         i += 1;
@@ -40,20 +39,19 @@ fn below(entries: [Entry; Schedule::EVENTS], count: usize, id: u64) -> usize
     i
 }
 
-// The entries in use stand by ascending id, so none but the first that is not smaller can bear it.
-fn place_of(s: Schedule, id: Id) -> Place
-    requires { ⌜ sound s ≡ true ⌝ }
-    ensures { λ r. ⌜ Found (view s .entries) (id .value) r ⌝ }
+// The slots in use stand by ascending id, so none but the first that is not smaller can bear it.
+fn place_of(d: Head, slots: &[[u64; 13]; 48], id: u64) -> Place
+    requires { ⌜ Ready d (now slots) ⌝ }
+    ensures { λ r. ⌜ Found (stateOf d (now (slots .entry)) .entries) id r ⌝ }
 {
-    let entries = s.entries;
-    let at = below(entries, s.count, id.value);
-    if s.count <= at {
+    let n = d.count;
+    let at = below(slots, n, id);
+    if n <= at {
         return Place { at, held: false };
     }
-    let h = entries[at];
     Place {
         at,
-        held: h.event.id.value == id.value,
+        held: slots[at][0] == id,
     }
 }
 
@@ -67,16 +65,16 @@ fn is_late(e: Event, clock: u64) -> bool
 }
 
 // Numbers given, of a delivery in checking order, 0 for none.
-fn number(s: Schedule, e: Event, p: Place) -> u8
-    requires { ⌜ sound s ≡ true ⌝ }
-    requires { ⌜ Found (view s .entries) (idOf e) p ⌝ }
-    ensures { λ r. ⌜ r ≡ firstOf (checks (view s) (deliver e)) ⌝ }
+fn number(d: Head, slots: &[[u64; 13]; 48], e: Event, p: Place) -> u8
+    requires { ⌜ Ready d (now slots) ⌝ }
+    requires { ⌜ Found (stateOf d (now slots) .entries) (idOf e) p ⌝ }
+    ensures { λ r. ⌜ r ≡ firstOf (checks (stateOf d (now (slots .entry))) (deliver e)) ⌝ }
 {
     if 7 < e.program {
         return 3;
     }
     let program = e.program as usize;
-    let known = s.programs[program];
+    let known = d.programs[program];
     if !known.added {
         return 6;
     }
@@ -85,128 +83,99 @@ fn number(s: Schedule, e: Event, p: Place) -> u8
     }
     if p.held {
         let at = p.at;
-        let h = s.entries[at];
+        let slot = slots[at];
+        let h = held::entry_of(slot);
         if h.event.equals(e) {
             return 0;
         }
         return 8;
     }
-    if is_late(e, s.clock) {
+    if is_late(e, d.clock) {
         return 9;
     }
-    if s.count == Schedule::EVENTS {
+    if d.count == Schedule::EVENTS {
         return 10;
     }
     0
 }
 
-// The entries with those from `at` on moved up by one, and `h` there.
-fn shifted(
-    mut entries: [Entry; Schedule::EVENTS],
-    count: usize,
-    at: usize,
-    h: Entry,
-) -> [Entry; Schedule::EVENTS]
-    requires { ⌜ (at ≤ count) × (count < mostEvents) ⌝ }
-    ensures { λ r. ⌜ r ≡ take at entries ++ (h ∷ drop at (take count entries)) ++ drop (count + 1) entries ⌝ }
+// The slots from `at` on move up by one, and `slot` comes there.
+fn put_in(slots: &mut [[u64; 13]; 48], n: usize, at: usize, slot: [u64; 13])
+    requires { ⌜ (at ≤ n) × (n < mostEvents) × (length (now slots) ≡ mostEvents) ⌝ }
+    ensures { λ _. ⌜ now (slots .exit) ≡ take at (now (slots .entry)) ++ (slot ∷ drop at (take n (now (slots .entry)))) ++ drop (n + 1) (now (slots .entry)) ⌝ }
 {
-    let mut j = count;
+    let mut j = n;
     while at < j {
-        let moved = entries[j - 1];
-        entries[j] = moved;
+        slots[j] = slots[j - 1];
         j -= 1;
     }
-    entries[at] = h;
-    entries
+    slots[at] = slot;
 }
 
-// The schedule with an event that it does not hold yet.
-fn received(mut s: Schedule, e: Event, at: usize) -> Schedule
-    requires { ⌜ sound s ≡ true ⌝ }
-    requires { ⌜ Placed (view s .entries) (idOf e) at ⌝ }
-    requires { ⌜ find (idOf e) (view s .entries) ≡ none ⌝ }
-    requires { ⌜ s .count < mostEvents ⌝ }
-    ensures { λ r. ⌜ r ≡ pad (receive (view s) e none) ⌝ }
+// Calls, deliver an event. One that is held already changes nothing.
+pub(crate) fn deliver(mut d: Head, slots: &mut [[u64; 13]; 48], e: Event) -> Acted
+    requires { ⌜ Ready d (now slots) ⌝ }
+    ensures { λ r. ⌜ Acts r (now (slots .exit)) [] (call (scheduleOf d (now (slots .entry))) (deliver e)) ⌝ }
 {
-    let period = e.period(s.clock);
-    let h = Entry {
+    let p = place_of(d, slots, e.id.value);
+    let k = number(d, slots, e, p);
+    if k != 0 {
+        return Acted {
+            answer: Answer::Refused(k),
+            head: d,
+        };
+    }
+    if p.held {
+        return Acted {
+            answer: Answer::Code(0),
+            head: d,
+        };
+    }
+    let period = e.period(d.clock);
+    let slot = held::slot_of(Entry {
         event: e,
         begins: period.start,
         held: 0,
         cancelled: false,
-    };
-    let entries = s.entries;
-    let wider = shifted(entries, s.count, at, h);
-    s.entries = wider;
-    s.count += 1;
-    s
-}
-
-// Calls, deliver an event. One that is held already changes nothing.
-pub(crate) fn deliver(s: Schedule, e: Event) -> Answered
-    requires { ⌜ sound s ≡ true ⌝ }
-    ensures { λ r. ⌜ outcomeOf r [] [] ≡ call s (deliver e) ⌝ }
-{
-    let p = place_of(s, e.id);
-    let n = number(s, e, p);
-    if n != 0 {
-        return Answered {
-            answer: Answer::Refused(n),
-            schedule: s,
-        };
-    }
-    if p.held {
-        return Answered {
-            answer: Answer::Code(0),
-            schedule: s,
-        };
-    }
-    Answered {
+    });
+    put_in(slots, d.count, p.at, slot);
+    d.count += 1;
+    Acted {
         answer: Answer::Code(1),
-        schedule: received(s, e, p.at),
+        head: d,
     }
 }
 
-// The schedule with the event in a place cancelled.
-fn stopped(mut s: Schedule, at: usize) -> Schedule
-    requires { ⌜ sound s ≡ true ⌝ }
-    requires { ⌜ at < s .count ⌝ }
-    ensures { λ r. ⌜ r ≡ pad (withEntries (view s) (map (mark (entryId (getD (view s .entries) at noEntry))) (view s .entries))) ⌝ }
+// Calls, cancel: the mark is set, and nothing is held any more. Twice changes nothing.
+pub(crate) fn cancel(d: Head, slots: &mut [[u64; 13]; 48], id: Id) -> Acted
+    requires { ⌜ Ready d (now slots) ⌝ }
+    ensures { λ r. ⌜ Acts r (now (slots .exit)) [] (call (scheduleOf d (now (slots .entry))) (cancel (id .value))) ⌝ }
 {
-    let h = s.entries[at];
+    let p = place_of(d, slots, id.value);
+    if !p.held {
+        return Acted {
+            answer: Answer::Refused(11),
+            head: d,
+        };
+    }
+    let at = p.at;
+    let slot = slots[at];
+    let h = held::entry_of(slot);
     let event = h.event;
-    s.entries[at] = Entry {
+    slots[at] = held::slot_of(Entry {
         event,
         begins: h.begins,
         held: 0,
         cancelled: true,
-    };
-    s
-}
-
-// Calls, cancel. An event that is cancelled already holds nothing, so to mark it again changes nothing.
-pub(crate) fn cancel(s: Schedule, id: Id) -> Answered
-    requires { ⌜ sound s ≡ true ⌝ }
-    ensures { λ r. ⌜ outcomeOf r [] [] ≡ call s (cancel (id .value)) ⌝ }
-{
-    let p = place_of(s, id);
-    if !p.held {
-        return Answered {
-            answer: Answer::Refused(11),
-            schedule: s,
-        };
-    }
-    let at = p.at;
-    let h = s.entries[at];
-    let schedule = stopped(s, at);
+    });
     if h.cancelled {
-        return Answered {
+        return Acted {
             answer: Answer::Code(0),
-            schedule,
+            head: d,
         };
     }
-    Answered {
+    Acted {
         answer: Answer::Code(6),
-        schedule,
+        head: d,
     }
 }

@@ -1,36 +1,33 @@
-// After the last moment: the masks go back into the entries, and what has ended is dropped.
+// After the last moment: the masks go back into the slots, and what has ended is dropped.
 ghost use mathlib.Core.Path.{_≡_};
-ghost use mathlib.Core.Bool.{true};
-ghost use Rattle.rules.specs.Sound.{sound};
-ghost use Rattle.calls.specs.Finished.{finished};
-use rules::Entry;
-use rules::Schedule;
+ghost use mathlib.Core.List.{map};
+ghost use Prim.Native.Nat.{_≤_};
+ghost use lib.ListN.{length};
+ghost use Rattle.rules.specs.Records.{mostEvents};
+ghost use Rattle.calls.specs.Slots.{entryOf};
+ghost use Rattle.calls.specs.Finished.{Finished};
+use crate::held;
 
-pub(crate) fn finish(from: Schedule, to: u64, ends: &[u64; 48], held: &[u32; 48]) -> Schedule
-    requires { ⌜ sound from ≡ true ⌝ }
-    ensures { λ r. ⌜ r ≡ finished from to (now (ends .entry)) (now (held .entry)) ⌝ }
+// The events that end after the reading come to the front; how many they are.
+pub(crate) fn finish(
+    slots: &mut [[u64; 13]; 48],
+    n: usize,
+    to: u64,
+    ends: &[u64; 48],
+    held: &[u32; 48],
+) -> usize
+    requires { ⌜ (n ≤ mostEvents) × (length (now slots) ≡ mostEvents) ⌝ }
+    ensures { λ r. ⌜ Finished to n (now (slots .entry)) (now (ends .entry)) (now (held .entry)) (now (slots .exit)) r ⌝ }
 {
-    let mut s = from;
-    let n = s.count;
-    let none = Entry::none();
     let mut k = 0;
-    let mut d = 0;
-    while d < n {
-        let h = s.entries[d];
-        let e = h.event;
-        s.entries[d] = none;
-        if to < ends[d] {
-            s.entries[k] = Entry {
-                event: e,
-                begins: h.begins,
-                held: held[d],
-                cancelled: h.cancelled,
-            };
+    let mut i = 0;
+    while i < n {
+        if to < ends[i] {
+            let slot = slots[i];
+            slots[k] = held::with_mask(slot, held[i]);
             k += 1;
         }
-        d += 1;
+        i += 1;
     }
-    s.count = k;
-    s.clock = to;
-    s
+    k
 }

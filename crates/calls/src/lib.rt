@@ -2,15 +2,19 @@
 // one equation with `call` of the definitions, refusals included: first 2 for a schedule that breaks a rule, then the call's own numbers in order.
 ghost use mathlib.Core.Path.{_≡_};
 ghost use mathlib.Core.List.{[]};
+ghost use Prim.Native.Nat.{_≤_};
+ghost use lib.ListN.{length};
+ghost use Rattle.rules.specs.Records.{mostEvents};
 ghost use Rattle.rules.specs.Calls.{call, addProgram, deliver, cancel, setClock, ask};
+ghost use Rattle.calls.specs.Slots.{scheduleOf};
 ghost use Rattle.calls.specs.Answered.{outcomeOf};
 ghost use Rattle.calls.specs.Lines.{lineOutcome, ranOf, runOutcome};
 
 mod advance;
 mod clock;
-mod columns;
 mod events;
 mod finish;
+mod held;
 mod lines;
 mod programs;
 mod reading;
@@ -18,6 +22,7 @@ mod settle;
 
 use rules::Answer;
 use rules::Event;
+use rules::Frame;
 use rules::Id;
 use rules::Line;
 use rules::Schedule;
@@ -28,6 +33,12 @@ pub struct Answered {
     pub schedule: Schedule,
 }
 
+// What a call on slots returns: they stay with the caller.
+pub(crate) struct Acted {
+    pub(crate) answer: Answer,
+    pub(crate) head: held::Head,
+}
+
 // What a run over lines returns: how many bytes it wrote, or its refusal; how many bytes of the lines it took.
 pub struct Ran {
     pub answer: Answer,
@@ -35,43 +46,65 @@ pub struct Ran {
     pub schedule: Schedule,
 }
 
+// A schedule by value from what a call on slots left.
+fn by_value(a: Acted, slots: &[[u64; 13]; 48]) -> Answered
+    requires { ⌜ (length (now slots) ≡ mostEvents) × (a .head .count ≤ mostEvents) ⌝ }
+    ensures { λ r. ⌜ (r .answer ≡ a .answer) × (r .schedule ≡ scheduleOf (a .head) (now (slots .entry))) ⌝ }
+{
+    let answer = a.answer;
+    let head = a.head;
+    Answered {
+        answer,
+        schedule: held::put_together(head, slots),
+    }
+}
+
 // Calls, add a program: code 0.
 pub fn add_program(s: Schedule, number: u8, primacy: u8, defaults: u32) -> Answered
     ensures { λ r. ⌜ outcomeOf r [] [] ≡ call s (addProgram number primacy defaults) ⌝ }
 {
-    if sound::is_sound(s) {
-        return programs::add_program(s, number, primacy, defaults);
+    if !sound::is_sound(s) {
+        return Answered {
+            answer: Answer::Refused(2),
+            schedule: s,
+        };
     }
-    Answered {
-        answer: Answer::Refused(2),
-        schedule: s,
-    }
+    let mut slots = [[0u64; 13]; 48];
+    held::take_apart(s, &mut slots);
+    let done = programs::add_program(held::head_of(s), number, primacy, defaults);
+    by_value(done, &slots)
 }
 
 // Calls, deliver an event: code 1 if it is new, 0 if it is held already with every field equal.
 pub fn deliver(s: Schedule, e: Event) -> Answered
     ensures { λ r. ⌜ outcomeOf r [] [] ≡ call s (deliver e) ⌝ }
 {
-    if sound::is_sound(s) {
-        return events::deliver(s, e);
+    if !sound::is_sound(s) {
+        return Answered {
+            answer: Answer::Refused(2),
+            schedule: s,
+        };
     }
-    Answered {
-        answer: Answer::Refused(2),
-        schedule: s,
-    }
+    let mut slots = [[0u64; 13]; 48];
+    held::take_apart(s, &mut slots);
+    let done = events::deliver(held::head_of(s), &mut slots, e);
+    by_value(done, &slots)
 }
 
 // Calls, cancel: code 6, or 0 if the event was cancelled before.
 pub fn cancel(s: Schedule, id: Id) -> Answered
     ensures { λ r. ⌜ outcomeOf r [] [] ≡ call s (cancel (id .value)) ⌝ }
 {
-    if sound::is_sound(s) {
-        return events::cancel(s, id);
+    if !sound::is_sound(s) {
+        return Answered {
+            answer: Answer::Refused(2),
+            schedule: s,
+        };
     }
-    Answered {
-        answer: Answer::Refused(2),
-        schedule: s,
-    }
+    let mut slots = [[0u64; 13]; 48];
+    held::take_apart(s, &mut slots);
+    let done = events::cancel(held::head_of(s), &mut slots, id);
+    by_value(done, &slots)
 }
 
 // Calls, set the clock: the rows of the moments passed go into the buffer, and their count is the answer.
@@ -91,13 +124,16 @@ pub fn set_clock(s: Schedule, reading: u64, buffer: &mut [u8]) -> Answered
 pub fn ask(s: Schedule, control: u8) -> Answered
     ensures { λ r. ⌜ outcomeOf r [] [] ≡ call s (ask control) ⌝ }
 {
-    if sound::is_sound(s) {
-        return programs::ask(s, control);
+    if !sound::is_sound(s) {
+        return Answered {
+            answer: Answer::Refused(2),
+            schedule: s,
+        };
     }
-    Answered {
-        answer: Answer::Refused(2),
-        schedule: s,
-    }
+    let mut slots = [[0u64; 13]; 48];
+    held::take_apart(s, &mut slots);
+    let done = programs::ask(held::head_of(s), &slots, control);
+    by_value(done, &slots)
 }
 
 // Numbers given, 1. A line is decoded and its call made; the buffer is lent for the rows of a clock reading.
@@ -111,17 +147,17 @@ pub fn act(s: Schedule, line: &[u8], buffer: &mut [u8]) -> Answered
             schedule: s,
         };
     };
-    if sound::is_sound(s) {
-        return lines::act_on(s, f, buffer);
-    }
-    Answered {
-        answer: Answer::Refused(2),
-        schedule: s,
+    match f {
+        Frame::Event(e) => deliver(s, e),
+        Frame::Cancel(id) => cancel(s, id),
+        Frame::Clock(t) => set_clock(s, t, buffer),
+        Frame::Program(n, p, d) => add_program(s, n, p, d),
+        Frame::Ask(c) => ask(s, c),
     }
 }
 
 // Frames and image, the program. Acts on each line that ends with a line feed and writes what the program prints for it over the front of `out`, one text
-// after the other. It stops before the first line whose text does not fit. It checks the schedule once, and keeps it to itself from line to line.
+// after the other. It stops before a line when less than `text::MOST` bytes of room are left. It checks the schedule once, and keeps it to itself from line to line.
 pub fn run(s: Schedule, lines: &[u8], out: &mut [u8]) -> Ran
     ensures { λ r. ⌜ ranOf r (now (out .exit)) ≡ runOutcome s (now (lines .entry)) (now (out .entry)) ⌝ }
 {

@@ -1,17 +1,18 @@
-// Frames acted on, and lines found in a text, on a sound schedule.
+// Frames acted on, and lines found in a text, on sound slots.
 ghost use mathlib.Core.Path.{_≡_};
 ghost use Prim.Native.Nat.{_+_, _≤_};
 ghost use mathlib.Core.Bool.{true};
-ghost use mathlib.Core.List.{[]};
 ghost use lib.ListN.{length, drop};
 ghost use Rattle.rules.specs.Sound.{sound};
-ghost use Rattle.calls.specs.Answered.{outcomeOf};
 ghost use Rattle.text.specs.Texts.{mostText};
-ghost use Rattle.calls.specs.Says.{Says};
-ghost use Rattle.calls.specs.Lines.{frameOutcome, endedOf, upTo, runs, ranOf, ranInto};
-use crate::Answered;
+ghost use Rattle.calls.specs.Slots.{scheduleOf, Ready};
+ghost use Rattle.calls.specs.Says.{ActsOn, Says};
+ghost use Rattle.calls.specs.Lines.{endedOf, upTo, runs, ranOf, ranInto};
+use crate::Acted;
 use crate::Ran;
 use crate::events;
+use crate::held;
+use crate::held::Head;
 use crate::programs;
 use crate::reading;
 use rules::Answer;
@@ -19,17 +20,18 @@ use rules::Frame;
 use rules::Line;
 use rules::Schedule;
 
-// Frames and image. The call of a frame; a clock reading writes its rows into the buffer.
-pub(crate) fn act_on(s: Schedule, f: Frame, buffer: &mut [u8]) -> Answered
-    requires { ⌜ sound s ≡ true ⌝ }
-    ensures { λ r. ⌜ outcomeOf r (now (buffer .exit)) [] ≡ frameOutcome s f (now (buffer .entry)) ⌝ }
+// Frames and image. The call of a frame; a clock reading writes its rows over the front of the buffer.
+fn act_on(d: Head, slots: &mut [[u64; 13]; 48], f: Frame, rows: &mut [u8; 1632]) -> Acted
+    requires { ⌜ Ready d (now slots) ⌝ }
+    requires { ⌜ length (now rows) ≡ 1632 ⌝ }
+    ensures { λ r. ⌜ ActsOn (scheduleOf d (now (slots .entry))) f r (now (slots .exit)) (now (rows .exit)) ⌝ }
 {
     match f {
-        Frame::Event(e) => events::deliver(s, e),
-        Frame::Cancel(id) => events::cancel(s, id),
-        Frame::Clock(t) => reading::set_clock(s, t, buffer),
-        Frame::Program(n, p, d) => programs::add_program(s, n, p, d),
-        Frame::Ask(c) => programs::ask(s, c),
+        Frame::Event(e) => events::deliver(d, slots, e),
+        Frame::Cancel(id) => events::cancel(d, slots, id),
+        Frame::Clock(t) => reading::pass(d, slots, t, rows),
+        Frame::Program(n, p, m) => programs::add_program(d, n, p, m),
+        Frame::Ask(c) => programs::ask(d, slots, c),
     }
 }
 
@@ -48,41 +50,47 @@ fn end_of(text: &[u8], from: usize) -> usize
     i
 }
 
-// What a line leaves: the schedule, and how many bytes of text.
+// What a line leaves besides the slots: the rest of the schedule, and the place behind its text.
 struct Telling {
-    schedule: Schedule,
-    length: usize,
+    head: Head,
+    behind: usize,
 }
 
-// Frames and image, the program. Acts on a line and writes its text over the front of `text`.
-fn tell(s: Schedule, line: &[u8], text: &mut [u8]) -> Telling
-    requires { ⌜ sound s ≡ true ⌝ }
-    requires { ⌜ length (now text) ≡ mostText ⌝ }
-    ensures { λ r. ⌜ Says s (now (line .entry)) (now (text .exit)) r ⌝ }
+// Frames and image, the program. Acts on a line and writes its text from `at` on.
+fn tell(
+    d: Head,
+    slots: &mut [[u64; 13]; 48],
+    line: &[u8],
+    rows: &mut [u8; 1632],
+    out: &mut [u8],
+    at: usize,
+) -> Telling
+    requires { ⌜ Ready d (now slots) ⌝ }
+    requires { ⌜ (length (now rows) ≡ 1632) × (at + mostText ≤ length (now out)) ⌝ }
+    ensures { λ r. ⌜ Says (scheduleOf d (now (slots .entry))) (now (line .entry)) (now (out .entry)) at r (now (slots .exit)) (now (rows .exit)) (now (out .exit)) ⌝ }
 {
     let decoded = frame::decode(line);
     let Line::Good(f) = decoded else {
-        let length = text::refused(text, 0, 1);
-        return Telling {
-            schedule: s,
-            length,
-        };
+        let behind = text::refused(out, at, 1);
+        return Telling { head: d, behind };
     };
-    let clock = s.clock;
-    let mut rows = [0u8; 1632];
-    let done = act_on(s, f, &mut rows);
+    let clock = d.clock;
+    let done = act_on(d, slots, f, rows);
     let answer = done.answer;
-    let length = text::told(text, 0, clock, f, answer, &rows);
-    let schedule = done.schedule;
-    Telling { schedule, length }
+    let head = done.head;
+    let behind = text::told(out, at, clock, f, answer, rows);
+    Telling { head, behind }
 }
 
-// Line after line, on a sound schedule.
-pub(crate) fn run(mut s: Schedule, lines: &[u8], out: &mut [u8]) -> Ran
+// Line after line, as long as there is room for any text.
+pub(crate) fn run(s: Schedule, lines: &[u8], out: &mut [u8]) -> Ran
     requires { ⌜ sound s ≡ true ⌝ }
     ensures { λ r. ⌜ ranOf r (now (out .exit)) ≡ ranInto (runs (length (now (out .entry))) s (endedOf (now (lines .entry)))) (now (out .entry)) ⌝ }
 {
-    let mut text = [0u8; 6048];
+    let mut slots = [[0u64; 13]; 48];
+    held::take_apart(s, &mut slots);
+    let mut d = held::head_of(s);
+    let mut rows = [0u8; 1632];
     let mut from = 0;
     let mut at = 0;
     while from < lines.len() {
@@ -90,19 +98,18 @@ pub(crate) fn run(mut s: Schedule, lines: &[u8], out: &mut [u8]) -> Ran
         if end == lines.len() {
             break;
         }
-        let told = tell(s, &lines[from..end], &mut text);
-        let n = told.length;
-        if out.len() - at < n {
+        if out.len() - at < text::MOST {
             break;
         }
-        at = text::put(out, at, &text[..n]);
-        let next = told.schedule;
-        s = next;
+        let told = tell(d, &mut slots, &lines[from..end], &mut rows, out, at);
+        at = told.behind;
+        let next = told.head;
+        d = next;
         from = end + 1;
     }
     Ran {
         answer: Answer::Count(at),
         read: from,
-        schedule: s,
+        schedule: held::put_together(d, &slots),
     }
 }

@@ -1,55 +1,53 @@
 // Programs added, and questions: a control's holder or its default.
 ghost use mathlib.Core.Path.{_≡_};
-ghost use mathlib.Core.Bool.{true, _&&_, cond};
-ghost use mathlib.Core.List.{[]};
-ghost use mathlib.Core.Option.{Option, none, some};
+ghost use mathlib.Core.List.{List, [], map};
 ghost use Prim.Native.Nat.{ℕ, _<_, _≤_};
-ghost use lib.ListN.{take};
-ghost use Rattle.rules.specs.Records.{has, view};
-ghost use Rattle.rules.specs.Sound.{sound};
+ghost use lib.ListN.{length, take, getD};
+ghost use Rattle.rules.specs.Records.{mostEvents, has};
 ghost use Rattle.rules.specs.Calls.{call, addProgram, ask, numberOf, valueOf, holderIn, bestOf, bestDefault, defaultFor};
-ghost use Rattle.calls.specs.Answered.{outcomeOf};
+ghost use Rattle.calls.specs.Slots.{entryOf, scheduleOf, Ready};
+ghost use Rattle.calls.specs.Answered.{Acts};
 ghost use Rattle.calls.specs.Best.{ranked, carrying};
-use crate::Answered;
+use crate::Acted;
+use crate::held::Head;
 use crate::settle;
 use rules::Answer;
+use rules::Id;
 use rules::Primacy;
 use rules::Program;
-use rules::Schedule;
 
-// Numbers given, of adding a program, in checking order; then the program in its place.
-pub(crate) fn add_program(mut s: Schedule, number: u8, primacy: u8, defaults: u32) -> Answered
-    requires { ⌜ sound s ≡ true ⌝ }
-    ensures { λ r. ⌜ outcomeOf r [] [] ≡ call s (addProgram number primacy defaults) ⌝ }
+// Numbers given, of adding a program, in checking order; then the program in its place. No slot is looked at.
+pub(crate) fn add_program(mut d: Head, number: u8, primacy: u8, defaults: u32) -> Acted
+    ensures { λ r. ⌜ ((w : List (List ℕ)) → Ready d w → Acts r w [] (call (scheduleOf d w) (addProgram number primacy defaults))) ⌝ }
 {
     if 7 < number {
-        return Answered {
+        return Acted {
             answer: Answer::Refused(3),
-            schedule: s,
+            head: d,
         };
     }
     let at = number as usize;
-    let old = s.programs[at];
+    let old = d.programs[at];
     if old.added {
-        return Answered {
+        return Acted {
             answer: Answer::Refused(4),
-            schedule: s,
+            head: d,
         };
     }
     let Primacy::Usable = Primacy::of(primacy) else {
-        return Answered {
+        return Acted {
             answer: Answer::Refused(5),
-            schedule: s,
+            head: d,
         };
     };
-    s.programs[at] = Program {
+    d.programs[at] = Program {
         added: true,
         primacy,
         defaults,
     };
-    Answered {
+    Acted {
         answer: Answer::Code(0),
-        schedule: s,
+        head: d,
     }
 }
 
@@ -84,9 +82,9 @@ fn better_default(p: Program, number: u8, control: u32, best: Best) -> Best
 }
 
 // Calls, ask: the program with the best primacy whose defaults carry the control.
-fn default_of(s: Schedule, control: u32) -> Answer
+fn default_of(programs: [Program; 8], control: u32) -> Answer
     requires { ⌜ control < 32 ⌝ }
-    ensures { λ r. ⌜ (numberOf r ≡ 0) × (valueOf r ≡ defaultFor (bestDefault control 0 (s .programs))) ⌝ }
+    ensures { λ r. ⌜ (numberOf r ≡ 0) × (valueOf r ≡ defaultFor (bestDefault control 0 programs)) ⌝ }
 {
     let mut best = Best {
         found: false,
@@ -96,7 +94,7 @@ fn default_of(s: Schedule, control: u32) -> Answer
     let mut i: u8 = 8;
     while 0 < i {
         i -= 1;
-        let p = s.programs[i as usize];
+        let p = programs[i as usize];
         best = better_default(p, i, control, best);
     }
     if best.found {
@@ -105,20 +103,25 @@ fn default_of(s: Schedule, control: u32) -> Answer
     Answer::Nobody
 }
 
-// Calls, ask: the event that holds the control, else the other answer.
-fn holder_or(s: Schedule, control: u32, other: Answer) -> Answer
-    requires { ⌜ control < 32 ⌝ }
-    requires { ⌜ s .count ≤ 48 ⌝ }
-    requires { ⌜ numberOf other ≡ 0 ⌝ }
-    ensures { λ r. ⌜ (numberOf r ≡ 0) × (valueOf r ≡ holderIn control (view s .entries) (valueOf other)) ⌝ }
+// Whether the event in a slot holds the control.
+fn is_holder(slots: &[[u64; 13]; 48], i: usize, control: u32) -> bool
+    requires { ⌜ (i < mostEvents) × (control < 32) ⌝ }
+    ensures { λ r. ⌜ r ≡ has (entryOf (getD (now (slots .entry)) i []) .held) control ⌝ }
 {
-    let n = s.count;
+    settle::is_in((slots[i][11] % 0x1_0000_0000) as u32, control)
+}
+
+// Calls, ask: the event that holds the control, else the other answer.
+fn holder_or(slots: &[[u64; 13]; 48], n: usize, control: u32, other: Answer) -> Answer
+    requires { ⌜ control < 32 ⌝ }
+    requires { ⌜ (n ≤ mostEvents) × (length (now slots) ≡ mostEvents) ⌝ }
+    requires { ⌜ numberOf other ≡ 0 ⌝ }
+    ensures { λ r. ⌜ (numberOf r ≡ 0) × (valueOf r ≡ holderIn control (map entryOf (take n (now (slots .entry)))) (valueOf other)) ⌝ }
+{
     let mut i = 0;
     while i < n {
-        let h = s.entries[i];
-        if settle::is_in(h.held, control) {
-            let e = h.event;
-            let id = e.id;
+        if is_holder(slots, i, control) {
+            let id = Id { value: slots[i][0] };
             return Answer::Holder(id);
         }
         i += 1;
@@ -126,20 +129,21 @@ fn holder_or(s: Schedule, control: u32, other: Answer) -> Answer
     other
 }
 
-pub(crate) fn ask(s: Schedule, control: u8) -> Answered
-    requires { ⌜ sound s ≡ true ⌝ }
-    ensures { λ r. ⌜ outcomeOf r [] [] ≡ call s (ask control) ⌝ }
+pub(crate) fn ask(d: Head, slots: &[[u64; 13]; 48], control: u8) -> Acted
+    requires { ⌜ Ready d (now slots) ⌝ }
+    ensures { λ r. ⌜ Acts r (now (slots .entry)) [] (call (scheduleOf d (now (slots .entry))) (ask control)) ⌝ }
 {
     if 31 < control {
-        return Answered {
+        return Acted {
             answer: Answer::Refused(14),
-            schedule: s,
+            head: d,
         };
     }
     let c = control as u32;
-    let other = default_of(s, c);
-    Answered {
-        answer: holder_or(s, c, other),
-        schedule: s,
+    let programs = d.programs;
+    let other = default_of(programs, c);
+    Acted {
+        answer: holder_or(slots, d.count, c, other),
+        head: d,
     }
 }

@@ -1,33 +1,70 @@
-// Setting the clock, on a sound schedule: the rows go into the lent buffer once it is known that they fit.
+// Setting the clock, on a schedule that is known to be sound: 12, then the moments.
 ghost use mathlib.Core.Path.{_≡_};
-ghost use mathlib.Core.Bool.{true};
+ghost use mathlib.Core.Bool.{true, _||_};
 ghost use mathlib.Core.List.{[]};
+ghost use lib.Dec.{ltb};
+ghost use lib.ListN.{length};
+ghost use Rattle.rules.specs.Records.{lastClock};
 ghost use Rattle.rules.specs.Sound.{sound};
 ghost use Rattle.rules.specs.Calls.{call, setClock};
+ghost use Rattle.calls.specs.Slots.{scheduleOf, Ready};
 ghost use Rattle.calls.specs.Answered.{outcomeOf};
+ghost use Rattle.calls.specs.Advanced.{Reads};
+use crate::Acted;
 use crate::Answered;
 use crate::advance;
+use crate::held;
+use crate::held::Head;
 use rules::Answer;
 use rules::Schedule;
 
+// Numbers given, 12.
+fn is_out_of_range(clock: u64, reading: u64) -> bool
+    ensures { λ r. ⌜ r ≡ (ltb reading clock || ltb lastClock reading) ⌝ }
+{
+    (reading < clock) | (Schedule::LAST_CLOCK < reading)
+}
+
+// On slots; the rows go over the front of a buffer that all rows fit, so that there is no 13.
+pub(crate) fn pass(
+    d: Head,
+    slots: &mut [[u64; 13]; 48],
+    reading: u64,
+    rows: &mut [u8; 1632],
+) -> Acted
+    requires { ⌜ Ready d (now slots) ⌝ }
+    requires { ⌜ length (now rows) ≡ 1632 ⌝ }
+    ensures { λ r. ⌜ Reads (scheduleOf d (now (slots .entry))) reading r (now (slots .exit)) (now (rows .exit)) ⌝ }
+{
+    if is_out_of_range(d.clock, reading) {
+        return Acted {
+            answer: Answer::Refused(12),
+            head: d,
+        };
+    }
+    let passed = advance::advance(d, slots, reading, rows);
+    let head = passed.head;
+    Acted {
+        answer: Answer::Count(passed.rows),
+        head,
+    }
+}
+
+// By value; the rows go into the lent buffer once it is known that they fit.
 pub(crate) fn set_clock(s: Schedule, reading: u64, buffer: &mut [u8]) -> Answered
     requires { ⌜ sound s ≡ true ⌝ }
     ensures { λ r. ⌜ outcomeOf r (now (buffer .exit)) [] ≡ call s (setClock reading (now (buffer .entry))) ⌝ }
 {
-    if reading < s.clock {
+    if is_out_of_range(s.clock, reading) {
         return Answered {
             answer: Answer::Refused(12),
             schedule: s,
         };
     }
-    if Schedule::LAST_CLOCK < reading {
-        return Answered {
-            answer: Answer::Refused(12),
-            schedule: s,
-        };
-    }
+    let mut slots = [[0u64; 13]; 48];
+    held::take_apart(s, &mut slots);
     let mut rows = [0u8; 1632];
-    let passed = advance::advance(s, reading, &mut rows);
+    let passed = advance::advance(held::head_of(s), &mut slots, reading, &mut rows);
     let n = passed.rows;
     if buffer.len() < 17 * n {
         return Answered {
@@ -36,9 +73,9 @@ pub(crate) fn set_clock(s: Schedule, reading: u64, buffer: &mut [u8]) -> Answere
         };
     }
     octets::copy(buffer, &rows, 17 * n);
-    let schedule = passed.schedule;
+    let head = passed.head;
     Answered {
         answer: Answer::Count(n),
-        schedule,
+        schedule: held::put_together(head, &slots),
     }
 }

@@ -1,11 +1,15 @@
 // Who keeps which control, where a better event takes it: control by control, by shifts.
 ghost use mathlib.Core.Path.{_≡_};
-ghost use Prim.Native.Nat.{_≤_, _<_, _^_};
+ghost use Prim.Native.Nat.{ℕ, _≤_, _<_, _^_};
+ghost use mathlib.Core.List.{[]};
 ghost use lib.ListN.{length, take, getD, set};
 ghost use Rattle.rules.specs.Lists.{Pairwise};
-ghost use Rattle.rules.specs.Records.{has, cut};
-ghost use Rattle.rules.specs.Holding.{better};
+ghost use Rattle.rules.specs.Records.{has, cut, programAt};
+ghost use Rattle.rules.specs.Holding.{better, rankOf};
+ghost use Rattle.calls.specs.Slots.{entryOf};
+ghost use Rattle.calls.specs.Columns.{primaciesOf, createdOf, idsOf, Numbered};
 ghost use Rattle.calls.specs.Settled.{claimants, settled, rankAt, betterAt, Contested, Decided};
+use rules::Program;
 
 // Of two events the better.
 pub(crate) fn is_better(p: u8, q: u8, made: u32, other: u32, id: u64, rival: u64) -> bool
@@ -34,19 +38,28 @@ pub(crate) fn is_in(m: u32, c: u32) -> bool
     (m >> c) % 2 == 1
 }
 
-// Whether the event at place i is better than the one at j.
-fn is_ahead(primacies: &[u8; 48], created: &[u32; 48], ids: &[u64; 48], i: usize, j: usize) -> bool
-    requires { ⌜ i < 48 ⌝ }
-    requires { ⌜ j < 48 ⌝ }
-    ensures { λ r. ⌜ r ≡ betterAt (now (primacies .entry)) (now (created .entry)) (now (ids .entry)) i j ⌝ }
+// The primacy of the event in a slot.
+fn primacy_at(programs: [Program; 8], slots: &[[u64; 13]; 48], i: usize) -> u8
+    requires { ⌜ (i < 48) × (length (now slots) ≡ 48) × (entryOf (getD (now slots) i []) .event .program < 8) ⌝ }
+    ensures { λ r. ⌜ r ≡ getD (primaciesOf programs (now (slots .entry))) i 0 ⌝ }
+{
+    let number = (slots[i][1] % 0x100) as usize;
+    let p = programs[number];
+    p.primacy
+}
+
+// Whether the event in slot i is better than the one in j.
+fn is_ahead(programs: [Program; 8], slots: &[[u64; 13]; 48], i: usize, j: usize) -> bool
+    requires { ⌜ (i < 48) × (j < 48) × (length (now slots) ≡ 48) × (entryOf (getD (now slots) i []) .event .program < 8) × (entryOf (getD (now slots) j []) .event .program < 8) ⌝ }
+    ensures { λ r. ⌜ r ≡ betterAt (primaciesOf programs (now (slots .entry))) (createdOf (now (slots .entry))) (idsOf (now (slots .entry))) i j ⌝ }
 {
     is_better(
-        primacies[i],
-        primacies[j],
-        created[i],
-        created[j],
-        ids[i],
-        ids[j],
+        primacy_at(programs, slots, i),
+        primacy_at(programs, slots, j),
+        (slots[i][3] % 0x1_0000_0000) as u32,
+        (slots[j][3] % 0x1_0000_0000) as u32,
+        slots[i][0],
+        slots[j][0],
     )
 }
 
@@ -60,37 +73,14 @@ fn take_away(masks: &mut [u32; 48], i: usize, c: u32)
     masks[i] = m ^ (m & (1 << c));
 }
 
-// The controls that two or more of the first n claim.
-fn contested(claims: &[u32; 48], n: usize) -> u32
-    requires { ⌜ n ≤ 48 ⌝ }
-    ensures { λ r. ⌜ Contested (now (claims .entry)) n r ⌝ }
-{
-    let mut seen = 0;
-    let mut twice = 0;
-    let mut i = 0;
-    while i < n {
-        let m = claims[i];
-        twice |= seen & m;
-        seen |= m;
-        i += 1;
-    }
-    twice
-}
-
 // Leaves control c to the best of those that claim it.
-fn decide(
-    masks: &mut [u32; 48],
-    primacies: &[u8; 48],
-    created: &[u32; 48],
-    ids: &[u64; 48],
-    n: usize,
-    c: u32,
-)
+fn decide(masks: &mut [u32; 48], programs: [Program; 8], slots: &[[u64; 13]; 48], n: usize, c: u32)
     requires { ⌜ n ≤ 48 ⌝ }
     requires { ⌜ c < 32 ⌝ }
-    requires { ⌜ length (now ids) ≡ 48 ⌝ }
-    requires { ⌜ Pairwise _<_ (take n (now ids)) ⌝ }
-    ensures { λ _. ⌜ Decided (rankAt (now (primacies .entry)) (now (created .entry)) (now (ids .entry))) n c (now (masks .entry)) (now (masks .exit)) ⌝ }
+    requires { ⌜ length (now slots) ≡ 48 ⌝ }
+    requires { ⌜ Pairwise _<_ (take n (idsOf (now slots))) ⌝ }
+    requires { ⌜ Numbered n (now slots) ⌝ }
+    ensures { λ _. ⌜ Decided (rankAt (primaciesOf programs (now (slots .entry))) (createdOf (now (slots .entry))) (idsOf (now (slots .entry)))) n c (now (masks .entry)) (now (masks .exit)) ⌝ }
 {
     let mut best = n;
     let mut i = 0;
@@ -98,7 +88,7 @@ fn decide(
         if is_in(masks[i], c) {
             if best == n {
                 best = i;
-            } else if is_ahead(primacies, created, ids, i, best) {
+            } else if is_ahead(programs, slots, i, best) {
                 take_away(masks, best, c);
                 best = i;
             } else {
@@ -109,33 +99,30 @@ fn decide(
     }
 }
 
-// What each of the first n events keeps of its claim. Only a contested control needs a decision.
+// What each of the first n events keeps of its claim, where two or more claim the controls in `shared`. No other control needs a decision.
 pub(crate) fn settle(
-    claims: &[u32; 48],
-    primacies: &[u8; 48],
-    created: &[u32; 48],
-    ids: &[u64; 48],
+    masks: &mut [u32; 48],
+    shared: u32,
+    programs: [Program; 8],
+    slots: &[[u64; 13]; 48],
     n: usize,
-) -> [u32; 48]
+)
     requires { ⌜ n ≤ 48 ⌝ }
-    requires { ⌜ length (now claims) ≡ 48 ⌝ }
-    requires { ⌜ length (now primacies) ≡ 48 ⌝ }
-    requires { ⌜ length (now created) ≡ 48 ⌝ }
-    requires { ⌜ length (now ids) ≡ 48 ⌝ }
-    requires { ⌜ Pairwise _<_ (take n (now ids)) ⌝ }
-    ensures { λ r. ⌜ take n r ≡ settled (claimants (take n (now (claims .entry))) (take n (now (primacies .entry))) (take n (now (created .entry))) (take n (now (ids .entry)))) ⌝ }
+    requires { ⌜ length (now masks) ≡ 48 ⌝ }
+    requires { ⌜ Contested (now masks) n shared ⌝ }
+    requires { ⌜ length (now slots) ≡ 48 ⌝ }
+    requires { ⌜ Pairwise _<_ (take n (idsOf (now slots))) ⌝ }
+    requires { ⌜ Numbered n (now slots) ⌝ }
+    ensures { λ _. ⌜ (length (now (masks .exit)) ≡ 48) × (take n (now (masks .exit)) ≡ settled (claimants (take n (now (masks .entry))) (take n (primaciesOf programs (now (slots .entry)))) (take n (createdOf (now (slots .entry)))) (take n (idsOf (now (slots .entry)))))) ⌝ }
 {
-    let open = contested(claims, n);
-    let mut masks = *claims;
-    if open == 0 {
-        return masks;
+    if shared == 0 {
+        return;
     }
     let mut c: u32 = 0;
     while c < 32 {
-        if is_in(open, c) {
-            decide(&mut masks, primacies, created, ids, n, c);
+        if is_in(shared, c) {
+            decide(masks, programs, slots, n, c);
         }
         c += 1;
     }
-    masks
 }

@@ -1,8 +1,9 @@
--- 1, or the call of the frame: 2, or what it does on a sound schedule.
-use mathlib.Core.Path.{sym, _∙_}
+-- 1, or the call of the frame.
+use mathlib.Core.Path.{ap}
 use borrow.Author.Needs.{needs}
-use Rattle.calls.specs.Lines.{lineOutcome}
-use Rattle.calls.proofs.Framed.{broken-frame}
+use Rattle.rules.specs.Calls.{Outcome}
+use Rattle.calls.specs.Lines.{lineOutcome, frameOutcome}
+use Rattle.calls.proofs.Framed.{beside}
 use Rattle.calls.proofs.act.Statement.{statement}
 use Rattle.calls.proofs.act.Tie as tie
 
@@ -10,22 +11,25 @@ returns : tie.Need-returns
 unfolding lineOutcome
 returns c = rw (← c .before .before .decode .ensures, c .enum-told .given .1)
 
-act-on-requires : tie.Need-act-on-requires
-act-on-requires c κs = sym (c .before .before .is-sound .ensures) ∙ c .before .if1 .taken
-
 returns-2 : tie.Need-returns-2
-unfolding lineOutcome
-returns-2 c =
-    let d = c .before .before .before .before .before .before .before in
-    rw (← d .before .before .decode .ensures, d .decoded .given .1) (c .before .before .act-on .ensures)
+unfolding lineOutcome frameOutcome
+returns-2 c = rw (← c .before .before .before .before .before .before .before .decode .ensures, c .before .before .before .before .before .decoded .given .1, c .before .before .f .given .1) (ap (beside (c .before .before .before .before .before .before .before .before .before .before .args .buffer .now)) (c .deliver .ensures))
 
 returns-3 : tie.Need-returns-3
-unfolding lineOutcome
-returns-3 c =
-    let d = c .before .before .before in
-    let a = d .before .before .before .before .before .args in
-    rw (← d .before .before .decode .ensures, d .decoded .given .1)
-    (broken-frame (a .s) (sym (c .before .is-sound .ensures) ∙ c .if1 .left) _ (a .buffer .now))
+unfolding lineOutcome frameOutcome
+returns-3 c = rw (← c .before .before .before .before .before .before .before .decode .ensures, c .before .before .before .before .before .decoded .given .1, c .before .before .f2 .given .1) (ap (beside (c .before .before .before .before .before .before .before .before .before .before .args .buffer .now)) (c .cancel .ensures))
+
+returns-4 : tie.Need-returns-4
+unfolding lineOutcome frameOutcome
+returns-4 c = rw (← c .before .before .before .before .before .before .before .before .before .before .decode .ensures, c .before .before .before .before .before .before .before .before .decoded .given .1, c .before .before .before .before .before .f3 .given .1) (ap (λ (o : Outcome). beside (o .bytes) o) (c .before .before .set-clock .ensures))
+
+returns-5 : tie.Need-returns-5
+unfolding lineOutcome frameOutcome
+returns-5 c = rw (← c .before .before .before .before .before .before .before .decode .ensures, c .before .before .before .before .before .decoded .given .1, c .before .before .f4 .given .1) (ap (beside (c .before .before .before .before .before .before .before .before .before .before .args .buffer .now)) (c .add-program .ensures))
+
+returns-6 : tie.Need-returns-6
+unfolding lineOutcome frameOutcome
+returns-6 c = rw (← c .before .before .before .before .before .before .before .decode .ensures, c .before .before .before .before .before .decoded .given .1, c .before .before .f5 .given .1) (ap (beside (c .before .before .before .before .before .before .before .before .before .before .args .buffer .now)) (c .ask .ensures))
 
 pub act-spec : {M : Type 1} → statement M
 act-spec =
@@ -35,8 +39,19 @@ act-spec =
     (λ c. search needs)
     (λ c. search needs)
     returns
-    (λ c κs. search needs)
-    act-on-requires
     (λ c. search needs)
+    (λ c κs. search needs)
+    (λ c. search needs)
+    (λ c κs. search needs)
+    (λ c. search needs)
+    (λ c κs. search needs)
+    (λ c. search needs)
+    (λ c κs. search needs)
+    (λ c. search needs)
+    (λ c κs. search needs)
     returns-2
-    returns-3)
+    returns-3
+    (λ c. search needs)
+    returns-4
+    returns-5
+    returns-6)

@@ -1,57 +1,83 @@
 -- The loop has passed the moments up to the clock.
-use mathlib.Core.Path.{_≡_, _∙_}
-use Prim.Native.Nat.{ℕ, _+_, _-_, _≤_}
+use mathlib.Core.Path.{_≡_, refl, _∙_}
+use Prim.Native.Nat.{_-_, _≤_}
 use native.Mathlib.Omega.{arith}
-use borrow.Author.Needs.{needs}
-use Rattle.calls.specs.declared.columns.Columns.{Columns}
-use Rattle.calls.proofs.Advancing.{Going, start, below, ids-ascend, after-now, room, step, stop}
+use lib.ListN.{length}
+use Rattle.calls.specs.Slots.{scheduleOf, Ready}
+use Rattle.calls.specs.Held.{columnsOf}
+use Rattle.calls.proofs.Advancing.{Going, begin, numbered, lasting-of, below, ids-ascend, after-now, room, step, stop}
 use Rattle.calls.proofs.advance.advance.Statement.{statement}
 use Rattle.calls.proofs.advance.advance.Tie as tie
 
 abbrev Inv-loop : tie.InvT-loop
-Inv-loop from to rows₀ n stopped ends begins controls primacies created ids held₀ now₀ at₀ rows held now at =
-    let c : Columns = record { stopped = stopped; ends = ends; begins = begins; controls = controls; primacies = primacies; created = created; ids = ids; held = held₀ } in
-    Going from to n c rows₀ rows held now at
+Inv-loop d slots to rows₀ n programs ends held₀ kept₀ codes₀ now₀ at₀ rows held kept codes now at =
+    Going (scheduleOf d slots) to (d .count) (columnsOf (d .programs) slots ends held₀) rows₀ rows held now at × (length kept ≡ 48) × (length codes ≡ 48)
 
 abbrev μ-loop : tie.MeasureT-loop
-μ-loop from to rows₀ n stopped ends begins controls primacies created ids held₀ now₀ at₀ rows held now at = to - now
+μ-loop d slots to rows₀ n programs ends held₀ kept₀ codes₀ now₀ at₀ rows held kept codes now at = to - now
+
+columns-of-requires : tie.Need-columns-of-requires Inv-loop μ-loop
+columns-of-requires c κs = (c .before .before .before .before .pre .0 .count, refl, refl)
 
 loop-holds : tie.Need-loop-holds Inv-loop μ-loop
 loop-holds c =
-    let d = c .before .before .before .before .before .before .before .before .before in
-    let r = c .before .before .before .before .before .before .before .before .columns-of in
-    start (d .args .from) (d .args .to) (r .result) (d .args .rows .now) (d .pre .0) (d .pre .1 .0) (d .pre .1 .1) (d .pre .1 .2) (r .ensures .0) (r .ensures .1)
+    let a = c .before .before .before .before .before .args in
+    let pre = c .before .before .before .before .before .pre in
+    (begin (pre .0) (a .to) _ _ (a .rows .now) (pre .1 .0) (pre .1 .1) (pre .1 .2) (c .columns-of .ensures), refl, refl)
 
 next-moment-requires : tie.Need-next-moment-requires Inv-loop μ-loop
-next-moment-requires c κs = let g = c .before .before .loop .inv in (below g, g .long .begins, g .long .ends)
+next-moment-requires c κs = (below (c .before .before .loop .inv .0), c .before .before .before .before .before .before .before .before .pre .0 .size)
+
+claims-at-requires : tie.Need-claims-at-requires Inv-loop μ-loop
+claims-at-requires c κs = (below (c .before .before .before .before .before .before .before .before .loop .inv .0), c .before .before .before .before .before .before .before .before .before .before .before .before .before .before .pre .0 .size, c .before .before .before .before .before .before .before .before .loop .inv .1)
 
 settle-requires : tie.Need-settle-requires Inv-loop μ-loop
 settle-requires c κs =
-    let g = c .before .before .before .before .before .before .before .before .before .before .before .before .before .before .loop .inv in
-    (below g, (c .before .before .before .before .claims-at .ensures .size, (g .long .primacies, (g .long .created, (g .long .ids, ids-ascend g)))))
+    let g = c .before .before .before .before .before .before .before .before .before .before .before .loop .inv .0 in
+    let claims = c .before .before .claims-at .ensures in
+    let r = c .before .before .before .before .before .before .before .before .before .before .before .before .before .before .before .before .before .pre .0 in
+    (below g, (claims .0 .size, (claims .1, (r .size, (ids-ascend g, numbered r)))))
+
+codes-at-requires : tie.Need-codes-at-requires Inv-loop μ-loop
+codes-at-requires c κs = let v = c .before .before .before .before .before .before .before .before .before .before .before .before .before .before .before .before .before .loop .inv in (below (v .0), c .before .before .before .before .before .before .before .before .before .before .before .before .before .before .before .before .before .before .before .before .before .before .before .pre .0 .size, v .2)
 
 rows-at-requires : tie.Need-rows-at-requires Inv-loop μ-loop
 rows-at-requires c κs =
-    let g = c .before .before .before .before .before .before .before .before .before .before .before .before .before .before .before .before .before .before .before .before .before .before .before .before .loop .inv in (
-      (below g, g .written .size ∙ g .size),
-      room g (c .before .before .before .before .before .before .before .before .before .before .before .before .before .before .before .before .before .before .before .before .before .next-moment .result) (c .before .before .before .before .before .before .before .before .before .before .before .before .before .before .before .before .before .before .before .before .before .next-moment .ensures) (c .before .before .before .before .before .before .before .before .before .before .before .before .before .before .before .before .before .before .before .before .if1 .left) _ _ _
-          (c .before .before .before .before .before .before .before .before .before .before .before .before .before .before .claims-at .ensures) (c .before .before .before .before .before .before .before .before .before .settle .ensures) (c .before .before .before .codes-at .ensures),
+    let g = c .before .before .before .before .before .before .before .before .before .before .before .before .before .before .before .before .before .before .before .before .before .loop .inv .0 in
+    let t = c .before .before .before .before .before .before .before .before .before .before .before .before .before .before .before .before .before .before .next-moment in
+    let codes = c .before .before .before .codes-at .ensures in (
+      (below g, g .written .size ∙ g .size, c .before .before .before .before .before .before .before .before .before .before .before .before .before .before .before .before .before .before .before .before .before .before .before .before .before .before .before .pre .0 .size, codes .1),
+      room g (t .result) (t .ensures) (c .before .before .before .before .before .before .before .before .before .before .before .before .before .before .before .before .before .if1 .left) _ _ _ (c .before .before .before .before .before .before .before .before .before .before .before .before .claims-at .ensures .0) (c .before .before .before .before .before .before .before .before .before .settle .ensures .1) (codes .0),
     )
 
 loop-less : tie.Need-loop-less Inv-loop μ-loop
 loop-less c =
-    let g = c .before .before .before .before .before .before .before .before .before .before .before .before .before .before .before .before .before .before .before .before .before .before .before .before .before .loop .inv in
-    let a = after-now g (c .before .before .before .before .before .before .before .before .before .before .before .before .before .before .before .before .before .before .before .before .before .before .next-moment .result) (c .before .before .before .before .before .before .before .before .before .before .before .before .before .before .before .before .before .before .before .before .before .before .next-moment .ensures) in
-    omega (arith, a .0, c .before .before .before .before .before .before .before .before .before .before .before .before .before .before .before .before .before .before .before .before .before .if1 .left)
+    let g = c .before .before .before .before .before .before .before .before .before .before .before .before .before .before .before .before .before .before .before .before .before .before .loop .inv .0 in
+    let t = c .before .before .before .before .before .before .before .before .before .before .before .before .before .before .before .before .before .before .before .next-moment in
+    let a = after-now g (t .result) (t .ensures) in
+    omega (arith, a .0, c .before .before .before .before .before .before .before .before .before .before .before .before .before .before .before .before .before .before .if1 .left)
 
 loop-again : tie.Need-loop-again Inv-loop μ-loop
 loop-again c =
-    let g = c .before .before .before .before .before .before .before .before .before .before .before .before .before .before .before .before .before .before .before .before .before .before .before .before .before .loop .inv in
-    step g (c .before .before .before .before .before .before .before .before .before .before .before .before .before .before .before .before .before .before .before .before .before .before .next-moment .result) (c .before .before .before .before .before .before .before .before .before .before .before .before .before .before .before .before .before .before .before .before .before .before .next-moment .ensures) (c .before .before .before .before .before .before .before .before .before .before .before .before .before .before .before .before .before .before .before .before .before .if1 .left) _ _ _
-    (c .before .before .before .before .before .before .before .before .before .before .before .before .before .before .before .claims-at .ensures) (c .before .before .before .before .before .before .before .before .before .before .settle .ensures) (c .before .before .before .before .codes-at .ensures) _ _ (c .rows-at .ensures)
+    let g = c .before .before .before .before .before .before .before .before .before .before .before .before .before .before .before .before .before .before .before .before .before .before .loop .inv .0 in
+    let t = c .before .before .before .before .before .before .before .before .before .before .before .before .before .before .before .before .before .before .before .next-moment in
+    let codes = c .before .before .before .before .codes-at .ensures in
+    let kept = c .before .before .before .before .before .before .before .before .before .before .settle .ensures in
+    (step g (t .result) (t .ensures) (c .before .before .before .before .before .before .before .before .before .before .before .before .before .before .before .before .before .before .if1 .left) _ _ _ (c .before .before .before .before .before .before .before .before .before .before .before .before .before .claims-at .ensures .0) (kept .1) (codes .0) _ _ (c .rows-at .ensures), kept .0, codes .0 .size)
+
+finish-requires : tie.Need-finish-requires Inv-loop μ-loop
+finish-requires c κs = (c .before .before .before .before .before .before .before .before .before .before .before .before .before .pre .0 .count, c .before .before .before .before .before .before .before .before .before .before .before .before .before .pre .0 .size)
 
 returns : tie.Need-returns Inv-loop μ-loop
-returns c = stop (c .before .before .before .before .before .before .before .loop .inv) (c .before .before .before .before .next-moment .result) (c .before .before .before .before .next-moment .ensures) (c .before .before .before .if1 .taken) (c .finish .result) (c .finish .ensures)
+returns c =
+    let pre = c .before .before .before .before .before .before .before .before .before .before .before .before .before .before .pre in
+    let t = c .before .before .before .before .before .next-moment in
+    let f = c .finish .ensures in
+    record {
+      size = f .size;
+      count = omega (arith, f .count, pre .0 .count);
+      advanced = stop (c .before .before .before .before .before .before .before .before .loop .inv .0) (t .result) (t .ensures) (c .before .before .before .before .if1 .taken) _ refl refl (lasting-of (pre .0) _ _ _ _ _ f);
+    }
 
 pub advance-spec : {M : Type 1} → statement M
 advance-spec =
@@ -59,15 +85,15 @@ advance-spec =
     (tie.spec
     Inv-loop
     μ-loop
-    (λ c κs. search needs)
+    columns-of-requires
     loop-holds
-    (λ c. let g = c .loop .inv in record { fits = omega (arith, g .last) })
+    (λ c. record { fits = omega (arith, c .loop .inv .0 .last) })
     next-moment-requires
-    (λ c κs. below (c .before .before .before .before .before .before .before .before .before .loop .inv))
+    claims-at-requires
     settle-requires
-    (λ c κs. below (c .before .before .before .before .before .before .before .before .before .before .before .before .before .before .before .before .before .before .before .before .loop .inv))
+    codes-at-requires
     rows-at-requires
     loop-less
     loop-again
-    (λ c κs. c .before .before .before .before .before .before .loop .inv .good)
+    finish-requires
     returns)

@@ -1,43 +1,45 @@
 -- The loop has looked at the first i.
 use mathlib.Core.Path.{_≡_, refl, sym, ap, _∙_}
-use Prim.Native.Nat.{ℕ, suc, _+_, _-_, _≤_}
+use Prim.Native.Nat.{_-_, _≤_}
+use mathlib.Core.List.{[]}
 use native.Mathlib.Numerals.{add-one}
 use native.Mathlib.Omega.{arith}
 use borrow.Author.Needs.{needs}
 use lib.ListN.{length, getD}
-use Rattle.calls.specs.Columns.{nearest, nextOf}
+use Rattle.calls.specs.Columns.{beginsOf, nearest, nextOf}
+use Rattle.calls.proofs.Columned.{begins-at}
 use Rattle.calls.proofs.clock.next_moment.Statement.{statement}
 use Rattle.calls.proofs.clock.next_moment.Tie as tie
 
 abbrev Inv-loop : tie.InvT-loop
-Inv-loop clock limit begins ends n t₀ i₀ t i = (i ≤ n) × (n ≤ 48) × (length begins ≡ 48) × (length ends ≡ 48) × (t ≡ nextOf clock limit i begins ends)
+Inv-loop clock limit slots ends n t₀ i₀ t i = (i ≤ n) × (n ≤ 48) × (length slots ≡ 48) × (t ≡ nextOf clock limit i (beginsOf slots) ends)
 
 abbrev μ-loop : tie.MeasureT-loop
-μ-loop clock limit begins ends n t₀ i₀ t i = n - i
+μ-loop clock limit slots ends n t₀ i₀ t i = n - i
 
 loop-holds : tie.Need-loop-holds Inv-loop μ-loop
 unfolding nextOf
-loop-holds c = (omega arith, c .pre .0, c .pre .1, c .pre .2, refl)
+loop-holds c = (omega arith, c .pre .0, c .pre .1, refl)
 
 loop-again : tie.Need-loop-again Inv-loop μ-loop
 unfolding nextOf
 loop-again c =
     let l = c .before .before .before .before .before .loop in
-    let a = c .before .before .before .before .before .before .args in (
+    let a = c .before .before .before .before .before .before .args in
+    let w = a .slots .now in (
       omega arith,
       l .inv .1,
       l .inv .2,
-      l .inv .3,
       c .nearer2 .ensures
-          ∙ ap (nearest (a .clock) (getD (a .begins .now) (l .i) 0)) (c .before .nearer .ensures ∙ ap (nearest (a .clock) (getD (a .ends .now) (l .i) 0)) (l .inv .4))
-          ∙ ap (λ k. nextOf (a .clock) (a .limit) k (a .begins .now) (a .ends .now)) (sym (add-one (l .i))),
+          ∙ rw (begins-at w (l .i) (omega (arith, l .inv .1, l .inv .2))) (ap (nearest (a .clock) (getD (getD w (l .i) []) 10 0)) (c .before .nearer .ensures ∙ ap (nearest (a .clock) (getD (a .ends .now) (l .i) 0)) (l .inv .3)))
+          ∙ ap (λ k. nextOf (a .clock) (a .limit) k (beginsOf w) (a .ends .now)) (sym (add-one (l .i))),
     )
 
 returns : tie.Need-returns Inv-loop μ-loop
 returns c =
     let l = c .before .loop in
     let z : l .i ≡ c .before .before .args .n = omega arith in
-    l .inv .4 ∙ ap (λ k. nextOf (c .before .before .args .clock) (c .before .before .args .limit) k (c .before .before .args .begins .now) (c .before .before .args .ends .now)) z
+    l .inv .3 ∙ ap (λ k. nextOf (c .before .before .args .clock) (c .before .before .args .limit) k (beginsOf (c .before .before .args .slots .now)) (c .before .before .args .ends .now)) z
 
 pub next-moment-spec : {M : Type 1} → statement M
 next-moment-spec =
@@ -47,9 +49,10 @@ next-moment-spec =
     μ-loop
     loop-holds
     (λ c. search needs)
-    (λ c. omega arith)
     (λ c. search needs)
-    (λ c. omega arith)
+    (λ c. search needs)
+    (λ c. search needs)
+    (λ c. search needs)
     (λ c κs. search needs)
     (λ c κs. search needs)
     (λ c. omega arith)

@@ -9,14 +9,14 @@ use borrow.Author.Needs.{needs}
 use borrow.Author.Tests.{lt-ltb, le-ltb, lt-leb}
 use lib.Dec.{leb}
 use lib.ListN.{length, getD}
-use lib.Seq.{getD-take}
 use Rattle.rules.specs.declared.Event.{Event}
 use Rattle.rules.specs.declared.Entry.{Entry}
-use Rattle.rules.specs.Records.{State, mostEvents, noEntry, view}
+use Rattle.rules.specs.Records.{State, mostEvents, noEntry}
 use Rattle.rules.specs.Refusals.{_if_, firstOf, isNone, differs, late, eventChecks}
 use Rattle.rules.specs.Calls.{deliver, checks}
-use Rattle.rules.proofs.SoundState.{rules, in-count}
-use Rattle.calls.proofs.Places.{found, inside}
+use Rattle.calls.specs.Slots.{stateOf}
+use Rattle.calls.proofs.Slots.{within, slot-at, count-of, sound-of}
+use Rattle.calls.proofs.Acting.{found, inside}
 use Rattle.calls.proofs.events.number.Statement.{statement}
 use Rattle.calls.proofs.events.number.Tie as tie
 
@@ -40,12 +40,13 @@ returns-3 c =
 
 -- past 7 the number hangs on what is held
 past : (c : tie.Else3) (b : Bool) → let a = c .before .before .before .before .before .before .before .before .args in
-    a .p .held ≡ b → firstOf (checks (view (a .t1)) (deliver (a .e))) ≡ rest (view (a .t1)) (a .e) (cond b (some (getD (view (a .t1) .entries) (a .p .at) noEntry)) none)
+    let s = stateOf (a .t1) (a .slots .now) in
+    a .p .held ≡ b → firstOf (checks s (deliver (a .e))) ≡ rest s (a .e) (cond b (some (getD (s .entries) (a .p .at) noEntry)) none)
 unfolding checks eventChecks
 past c b q =
     let start = c .before .before .before .before .before .before .before .before in
     rw (
-      found (start .args .t1) (start .pre .0) (start .pre .1),
+      found (start .pre .0) (start .pre .1),
       q,
       le-ltb 7 _ (c .before .before .before .before .before .before .if1 .left),
       c .before .before .if2 .left,
@@ -53,14 +54,15 @@ past c b q =
     )
 
 there : (c : tie.Then4) → let a = c .before .before .before .before .before .before .before .before .before .args in (a .p .at < a .t1 .count) × (a .t1 .count ≤ mostEvents)
-there c = let start = c .before .before .before .before .before .before .before .before .before in inside (start .args .t1) (start .pre .0) (start .pre .1) (c .if4 .taken)
+there c = let start = c .before .before .before .before .before .before .before .before .before in inside (start .pre .0) (start .pre .1) (c .if4 .taken)
 
-compared : (c : tie.After-equals) → let a = c .before .before .before .before .before .before .before .before .before .before .before .args in
-    firstOf (checks (view (a .t1)) (deliver (a .e))) ≡ cond (not (c .equals .result)) 8 0
+compared : (c : tie.After-equals) → let a = c .before .before .before .before .before .before .before .before .before .before .before .before .args in
+    firstOf (checks (stateOf (a .t1) (a .slots .now)) (deliver (a .e))) ≡ cond (not (c .equals .result)) 8 0
 compared c =
-    let a = c .before .before .before .before .before .before .before .before .before .before .before .args in
-    past (c .before .before .before) true (c .before .before .if4 .taken)
-    ∙ rw (getD-take (a .t1 .count) (a .t1 .entries) (a .p .at) noEntry (there (c .before .before) .0), sym (c .equals .ensures))
+    let start = c .before .before .before .before .before .before .before .before .before .before .before .before in
+    let a = start .args in
+    past (c .before .before .before .before) true (c .before .before .before .if4 .taken)
+    ∙ rw (slot-at (a .slots .now) (a .t1 .count) (within (start .pre .0)) (a .p .at) (there (c .before .before .before) .0), ← c .before .entry-of .ensures, sym (c .equals .ensures))
 
 returns-4 : tie.Need-returns-4
 returns-4 c = sym (compared (c .before) ∙ rw (c .if5 .taken))
@@ -69,18 +71,18 @@ returns-5 : tie.Need-returns-5
 returns-5 c = sym (compared (c .before) ∙ rw (c .if5 .left))
 
 is-late-requires : tie.Need-is-late-requires
-is-late-requires c κs = let start = c .before .before .before .before .before .before .before .before .before in rules (start .args .t1) (start .pre .0) .clock
+is-late-requires c κs = let start = c .before .before .before .before .before .before .before .before .before in sound-of (start .pre .0) .clock
 
 returns-6 : tie.Need-returns-6
 returns-6 c = sym (past (c .before .before .before) false (c .before .before .if4 .left) ∙ rw (sym (c .before .is-late .ensures) ∙ c .if6 .taken))
 
 -- past 9 there is room or not
-soon : (c : tie.Else6) → let s = c .before .before .before .before .before .before .before .before .before .before .before .args .t1 in
-    firstOf (checks (view s) (deliver (c .before .before .before .before .before .before .before .before .before .before .before .args .e))) ≡ cond (leb mostEvents (s .count)) 10 0
+soon : (c : tie.Else6) → let a = c .before .before .before .before .before .before .before .before .before .before .before .args in
+    firstOf (checks (stateOf (a .t1) (a .slots .now)) (deliver (a .e))) ≡ cond (leb mostEvents (a .t1 .count)) 10 0
 soon c =
     let start = c .before .before .before .before .before .before .before .before .before .before .before in
     past (c .before .before .before) false (c .before .before .if4 .left)
-    ∙ rw (sym (c .before .is-late .ensures) ∙ c .if6 .left, in-count (start .args .t1) (start .pre .0))
+    ∙ rw (sym (c .before .is-late .ensures) ∙ c .if6 .left, count-of (start .pre .0))
 
 returns-7 : tie.Need-returns-7
 returns-7 c = sym (soon (c .before) ∙ rw (c .if7 .taken))
@@ -88,11 +90,27 @@ returns-7 c = sym (soon (c .before) ∙ rw (c .if7 .taken))
 returns-8 : tie.Need-returns-8
 returns-8 c =
     let start = c .before .before .before .before .before .before .before .before .before .before .before .before in
-    let s = start .args .t1 in
-    let room : s .count < mostEvents = omega (arith, c .if7 .left, rules s (start .pre .0) .count) in
-    sym (soon (c .before) ∙ rw (lt-leb mostEvents (s .count) room))
+    let room : start .args .t1 .count < mostEvents = omega (arith, c .if7 .left, start .pre .0 .count) in
+    sym (soon (c .before) ∙ rw (lt-leb mostEvents (start .args .t1 .count) room))
 
 pub number-spec : {M : Type 1} → statement M
 number-spec =
     tie.close
-    (tie.spec returns (λ c. search needs) (λ c. search needs) (λ c. search needs) returns-2 (λ c κs. search needs) returns-3 (λ c. omega (arith, there c)) (λ c. omega (arith, there c)) (λ c κs. search needs) returns-4 returns-5 is-late-requires returns-6 returns-7 returns-8)
+    (tie.spec
+    returns
+    (λ c. search needs)
+    (λ c. search needs)
+    (λ c. search needs)
+    returns-2
+    (λ c κs. search needs)
+    returns-3
+    (λ c. omega (arith, there c))
+    (λ c. omega (arith, there c))
+    (λ c κs. search needs)
+    (λ c κs. search needs)
+    returns-4
+    returns-5
+    is-late-requires
+    returns-6
+    returns-7
+    returns-8)

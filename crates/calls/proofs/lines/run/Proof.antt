@@ -1,95 +1,66 @@
 -- Line by line: what is known before the next one is `Running`.
-use mathlib.Core.Path.{_≡_, refl, sym, ap, _∙_}
-use Prim.Native.Nat.{_+_, _-_, _≤_}
+use mathlib.Core.Path.{_≡_, refl, ap, _∙_}
+use mathlib.Core.Logic.{⊎-elim}
+use Prim.Native.Nat.{_-_, _≤_}
 use native.Mathlib.Omega.{arith}
 use borrow.Author.Needs.{needs}
 use lib.ListN.{length}
+use Rattle.rules.specs.Records.{mostEvents}
+use Rattle.rules.specs.Calls.{count}
+use Rattle.calls.specs.Slots.{scheduleOf}
+use Rattle.calls.specs.Lines.{endedOf, runs, ranInto}
+use Rattle.calls.proofs.Returned.{same-schedule, ready}
 use Rattle.calls.proofs.Running.{Running, running-none, running-size, running-end, running-stop, running-past, running-more}
 use Rattle.calls.proofs.Ends.{end-within}
-use Rattle.calls.proofs.Said.{front-within, front-length, put-there}
 use Rattle.calls.proofs.lines.run.Statement.{statement}
 use Rattle.calls.proofs.lines.run.Tie as tie
 
 abbrev Inv-loop : tie.InvT-loop
-Inv-loop s₀ lines out₀ text₀ from₀ at₀ s out text from at = (length text ≡ 6048) × Running s₀ lines out₀ s from at out
+Inv-loop lines out₀ slots₀ d₀ rows₀ from₀ at₀ out slots d rows from at =
+    Running (scheduleOf d₀ slots₀) lines out₀ (scheduleOf d slots) from at out × (length slots ≡ mostEvents) × (d .count ≤ mostEvents) × (length rows ≡ 1632)
 
 abbrev μ-loop : tie.MeasureT-loop
-μ-loop s₀ lines out₀ text₀ from₀ at₀ s out text from at = length lines - from
+μ-loop lines out₀ slots₀ d₀ rows₀ from₀ at₀ out slots d rows from at = length lines - from
 
 loop-holds : tie.Need-loop-holds Inv-loop μ-loop
-loop-holds c = let b = c .before .before in (refl, running-none (b .args .s) (b .pre) (b .args .lines .now) (b .args .out .now))
+loop-holds c =
+    let start = c .before .before .before .before .before in
+    let r = ready (start .args .s) (c .head-of .result) _ (c .head-of .ensures) (c .before .take-apart .ensures) (start .pre) in
+    (running-none _ (r .good) (start .args .lines .now) (start .args .out .now), r .size, r .count, refl)
 
 end-of-requires : tie.Need-end-of-requires Inv-loop μ-loop
-end-of-requires c κs = c .before .loop .inv .1 .within
-
-sub-tell : tie.Need-sub-tell Inv-loop μ-loop
-sub-tell c = omega (arith, c .before .end-of .ensures)
-
-part-tell-start : tie.Need-part-tell-start Inv-loop μ-loop
-part-tell-start c = omega (arith, c .before .end-of .ensures)
-
-part-tell-end : tie.Need-part-tell-end Inv-loop μ-loop
-part-tell-end c = omega (arith, c .before .end-of .ensures, end-within (c .before .before .before .before .before .before .args .lines .now) (c .before .before .before .loop .from) (c .before .before .before .loop .inv .1 .within))
-
-slice-aggregate-tell : tie.Need-slice-aggregate-tell Inv-loop μ-loop
-slice-aggregate-tell c = search needs
+end-of-requires c κs = c .before .loop .inv .0 .within
 
 tell-requires : tie.Need-tell-requires Inv-loop μ-loop
-tell-requires c κs = (c .before .before .before .before .before .loop .inv .1 .is-sound, search needs)
-
-sub-if2 : tie.Need-sub-if2 Inv-loop μ-loop
-sub-if2 c =
-    let l = c .before .before .before .before .before .before .before .loop in
-    omega (arith, running-size (l .inv .1), l .inv .1 .fits)
-
-array-share-prefix-text : tie.Need-array-share-prefix-text Inv-loop μ-loop
-array-share-prefix-text c = omega (arith, front-within (c .before .before .before .tell .ensures))
-
-slice-aggregate-put : tie.Need-slice-aggregate-put Inv-loop μ-loop
-slice-aggregate-put c = sym (front-length (c .before .before .before .before .tell .ensures))
-
-add-from : tie.Need-add-from Inv-loop μ-loop
-add-from c =
-    let e = c .before .before .before .before .before .before .before .before .before .before .before in
-    let l = e .before .before .before .loop in
-    omega (arith, e .if1 .left, e .before .end-of .ensures, end-within (e .before .before .before .before .before .before .args .lines .now) (l .from) (l .inv .1 .within))
-
-loop-less : tie.Need-loop-less Inv-loop μ-loop
-loop-less c = omega (arith, c .before .before .before .before .before .before .before .before .before .before .before .before .end-of .ensures)
+tell-requires c κs =
+    let l = c .before .before .before .before .before .before .before .before .loop in
+    let v = l .inv in
+    (record { size = v .1; count = v .2; good = v .0 .is-sound }, (v .3, omega (arith, c .before .before .before .before .if2 .left, running-size (v .0), v .0 .fits)))
 
 loop-again : tie.Need-loop-again Inv-loop μ-loop
 loop-again c =
-    let e = c .before .before .before .before .before .before .before .before .before .before .before .before in
+    let e = c .before .before .before .before .before .before .before .before .before .before in
     let l = e .before .before .loop in
-    let t = c .before .before .before .before .before .before .before .before .tell .ensures in
-    let w = put-there t (c .before .before .before .put .ensures) (omega (arith, l .inv .1 .fits, running-size (l .inv .1), c .before .before .before .before .before .before .if2 .left)) in
-    let b = c .before .before .before .before .before .before .before .before .before .before .before in
-    let a = e .before .before .before .before .before .args in
-    let last = end-within (a .lines .now) (l .from) (l .inv .1 .within) in
-    let more = running-more (l .inv .1) (e .end-of .result) (e .end-of .ensures) (omega (arith, b .if1 .left, e .end-of .ensures, last)) (t .count)
-    (omega (arith, c .before .before .before .before .before .before .if2 .left, running-size (l .inv .1))) (t .state) (w .is) in
-    (search needs, rw (← (w .end ∙ ap (_+_ (l .at)) (sym (t .count)))) at more)
-
-same-length : tie.Need-same-length Inv-loop μ-loop
-same-length c = running-size (c .before .loop .inv .1)
+    let a = e .before .before .before .before .before .before .before .before .args in
+    let t = c .before .before .before .tell .ensures in
+    let last = end-within (a .lines .now) (l .from) (l .inv .0 .within) in
+    (running-more (l .inv .0) (e .end-of .result) (e .end-of .ensures) (omega (arith, c .before .before .before .before .before .before .before .before .before .if1 .left, e .end-of .ensures, last)) (omega (arith, c .before .before .before .before .before .before .before .before .if2 .left, running-size (l .inv .0))) t, t .size, t .count, t .long)
 
 returns : tie.Need-returns Inv-loop μ-loop
-returns c = running-past (c .before .loop .inv .1) (c .loop-test .left)
-
-same-length-2 : tie.Need-same-length-2 Inv-loop μ-loop
-same-length-2 c = running-size (c .before .before .before .loop .inv .1)
-
-returns-2 : tie.Need-returns-2 Inv-loop μ-loop
-returns-2 c = running-end (c .before .before .before .loop .inv .1) _ (c .before .end-of .ensures) (omega (arith, c .if1 .taken))
-
-same-length-3 : tie.Need-same-length-3 Inv-loop μ-loop
-same-length-3 c = running-size (c .before .before .before .before .before .before .before .before .loop .inv .1)
-
-returns-3 : tie.Need-returns-3 Inv-loop μ-loop
-returns-3 c =
-    let l = c .before .before .before .before .before .before .before .before .loop in
-    running-stop (l .inv .1) _ (c .before .before .before .before .before .before .end-of .ensures) (omega (arith, c .before .before .before .before .before .if1 .left, c .before .before .before .before .before .before .end-of .ensures, end-within (c .before .before .before .before .before .before .before .before .before .before .before .args .lines .now) (l .from) (l .inv .1 .within)))
-    (omega (arith, c .if2 .taken, running-size (l .inv .1), c .before .before .tell .ensures .count))
+returns c =
+    let l = c .before .before .before .loop in
+    let a = c .before .before .before .before .before .before .before .before .before .args in
+    let v = l .inv .0 in
+    let first = same-schedule (a .s) (c .before .before .before .before .head-of .result) _ (c .before .before .before .before .head-of .ensures) (c .before .before .before .before .before .take-apart .ensures) in
+    let all : record { number = 0; value = count (l .at); state = scheduleOf (l .d) (l .slots); read = l .from; bytes = l .out } ≡ ranInto (runs (length (a .out .now)) _ (endedOf (a .lines .now))) (a .out .now) =
+    ⊎-elim
+    (λ w. running-past v (w .left))
+    (⊎-elim
+    (λ w. running-end v _ (w .1 .ensures) (omega (arith, w .2 .taken)))
+    (λ w. running-stop v _ (w .1 .ensures) (omega (arith, w .2 .left, w .1 .ensures, end-within (a .lines .now) (l .from) (v .within))) (omega (arith, w .3 .taken, running-size v))))
+    (c .before .before .loop-test .came) in
+    (λ i. record { number = 0; value = count (l .at); state = c .put-together .ensures i; read = l .from; bytes = l .out })
+    ∙ all ∙ ap (λ z. ranInto (runs (length (a .out .now)) z (endedOf (a .lines .now))) (a .out .now)) first
 
 pub run-spec : {M : Type 1} → statement M
 run-spec =
@@ -97,23 +68,18 @@ run-spec =
     (tie.spec
     Inv-loop
     μ-loop
+    (λ c κs. (c .before .before .before .pre, refl))
+    (λ c κs. search needs)
     loop-holds
     end-of-requires
-    sub-tell
-    part-tell-start
-    part-tell-end
-    slice-aggregate-tell
+    (λ c. let l = c .before .before .before .loop in omega (arith, running-size (l .inv .0), l .inv .0 .fits))
+    (λ c. omega (arith, c .before .before .before .end-of .ensures))
+    (λ c. omega (arith, c .before .before .before .end-of .ensures))
+    (λ c. omega (arith, c .before .before .before .end-of .ensures, end-within (c .before .before .before .before .before .before .before .before .before .before .before .args .lines .now) (c .before .before .before .before .before .loop .from) (c .before .before .before .before .before .loop .inv .0 .within)))
     tell-requires
-    sub-if2
-    array-share-prefix-text
-    slice-aggregate-put
-    (λ c κs. search needs)
-    add-from
-    loop-less
+    (λ c. let e = c .before .before .before .before .before .before .before .before .before .before in omega (arith, c .before .before .before .before .before .before .before .before .before .if1 .left, e .end-of .ensures, end-within (e .before .before .before .before .before .before .before .before .args .lines .now) (e .before .before .loop .from) (e .before .before .loop .inv .0 .within)))
+    (λ c. omega (arith, c .before .before .before .before .before .before .before .before .before .before .end-of .ensures))
     loop-again
-    same-length
-    returns
-    same-length-2
-    returns-2
-    same-length-3
-    returns-3)
+    (λ c κs. let v = c .before .before .loop .inv in (v .1, v .2))
+    (λ c. running-size (c .before .before .before .loop .inv .0))
+    returns)

@@ -1,46 +1,43 @@
--- Each return has the tests that led there; an accepted program is the schedule with one place set.
-use mathlib.Core.Path.{sym, refl, ap, _∙_}
-use mathlib.Core.List.{[]}
+-- Each return has the tests that led there; an accepted program is the schedule with one place set, and no slot changes.
+use mathlib.Core.Path.{refl, sym}
 use borrow.Author.Needs.{needs}
 use borrow.Author.Tests.{lt-ltb, le-ltb}
 use Rattle.rules.specs.Refusals.{programChecks}
-use Rattle.rules.specs.Calls.{addProgram, code, programOf, does, checks}
-use Rattle.rules.proofs.CallLaws.{done}
-use Rattle.calls.proofs.Answers.{given}
+use Rattle.rules.specs.Calls.{addProgram, does, checks}
 use Rattle.sound.proofs.Primacies.{arm}
-use Rattle.calls.proofs.Adding.{stored}
+use Rattle.calls.proofs.Acting.{refuses, does-it}
 use Rattle.calls.proofs.programs.add_program.Statement.{statement}
 use Rattle.calls.proofs.programs.add_program.Tie as tie
 
 returns : tie.Need-returns
 unfolding checks programChecks
-returns c =
+returns c w r =
     let a = c .before .args in
-    given (a .t1) (c .before .pre) (addProgram (a .number) (a .primacy) (a .defaults)) 3 refl (rw (lt-ltb 7 (a .number) (c .if1 .taken)))
+    refuses r (addProgram (a .number) (a .primacy) (a .defaults)) 3 refl refl (rw (lt-ltb 7 (a .number) (c .if1 .taken)))
 
 returns-2 : tie.Need-returns-2
 unfolding checks programChecks
-returns-2 c =
-    let d = c .before .before .before in
-    let a = d .args in
-    given (a .t1) (d .pre) (addProgram (a .number) (a .primacy) (a .defaults)) 4 refl (rw (le-ltb 7 (a .number) (c .before .before .if1 .left), c .if2 .taken))
+returns-2 c w r =
+    let a = c .before .before .before .args in
+    refuses r (addProgram (a .number) (a .primacy) (a .defaults)) 4 refl refl (rw (le-ltb 7 (a .number) (c .before .before .if1 .left), c .if2 .taken))
 
 returns-3 : tie.Need-returns-3
 unfolding checks programChecks
-returns-3 c =
-    let d = c .before .before .before .before .before .before in
-    let a = d .args in
-    given (a .t1) (d .pre) (addProgram (a .number) (a .primacy) (a .defaults)) 5 refl
+returns-3 c w r =
+    let a = c .before .before .before .before .before .before .args in
+    refuses r (addProgram (a .number) (a .primacy) (a .defaults)) 5 refl refl
     (rw (le-ltb 7 (a .number) (c .before .before .before .before .before .if1 .left), c .before .before .before .if2 .left, arm _ _ _ (c .enum-told2 .given .1) (c .before .before .of .ensures)))
 
 returns-4 : tie.Need-returns-4
 unfolding checks programChecks does
-returns-4 c =
-    let d = c .before .before .before .before .before .before in
-    let a = d .args in
-    ap (λ z. record { number = 0; value = code 0; state = z; bytes = []; records = [] }) (stored (a .t1) (d .pre) (a .number) (programOf (a .primacy) (a .defaults)))
-    ∙ sym (done (a .t1) (d .pre) (addProgram (a .number) (a .primacy) (a .defaults))
-    (rw (le-ltb 7 (a .number) (c .before .before .before .before .before .if1 .left), c .before .before .before .if2 .left, arm _ _ _ (c .enum-told .given .1) (c .before .before .of .ensures))))
+returns-4 c w r =
+    let a = c .before .before .before .before .before .before .args in
+    record {
+      size = r .size;
+      count = r .count;
+      outcome = sym (does-it r (addProgram (a .number) (a .primacy) (a .defaults))
+          (rw (le-ltb 7 (a .number) (c .before .before .before .before .before .if1 .left), c .before .before .before .if2 .left, arm _ _ _ (c .enum-told .given .1) (c .before .before .of .ensures))));
+    }
 
 pub add-program-spec : {M : Type 1} → statement M
 add-program-spec =

@@ -1,43 +1,35 @@
 -- 14, or the holder, or the default.
 use mathlib.Core.Path.{refl, sym, ap, ap₂, _∙_}
-use Prim.Native.Nat.{ℕ}
 use mathlib.Core.List.{[]}
-use native.Mathlib.Omega.{arith}
 use borrow.Author.Needs.{needs}
 use borrow.Author.Tests.{lt-ltb, le-ltb}
-use Rattle.rules.specs.Records.{view}
 use Rattle.rules.specs.Refusals.{askChecks}
-use Rattle.rules.specs.Calls.{Outcome, Value, valueOf, ask, holderIn, answerFor, does, checks}
-use Rattle.rules.specs.declared.Schedule.{Schedule}
-use Rattle.rules.proofs.SoundState.{rules, pad-view}
-use Rattle.rules.proofs.CallLaws.{done}
-use Rattle.calls.proofs.Answers.{given}
+use Rattle.rules.specs.Calls.{ask, holderIn, answerFor, does, checks}
+use Rattle.calls.specs.Slots.{stateOf, scheduleOf}
+use Rattle.calls.proofs.Acting.{refuses, does-it}
 use Rattle.calls.proofs.programs.ask.Statement.{statement}
 use Rattle.calls.proofs.programs.ask.Tie as tie
-
-abbrev answered : ℕ → Value → Schedule → Outcome
-answered n v s = record { number = n; value = v; state = s; bytes = []; records = [] }
 
 returns : tie.Need-returns
 unfolding checks askChecks
 returns c =
     let a = c .before .args in
-    given (a .s) (c .before .pre) (ask (a .control)) 14 refl (rw (lt-ltb 31 (a .control) (c .if1 .taken)))
+    refuses (c .before .pre) (ask (a .control)) 14 refl refl (rw (lt-ltb 31 (a .control) (c .if1 .taken)))
 
 returns-2 : tie.Need-returns-2
 unfolding checks askChecks does answerFor
 returns-2 c =
-    let d = c .before .before .before in
-    let a = d .args in
-    ap (λ n. answered n (valueOf (c .holder-or .result)) (a .s)) (c .holder-or .ensures .0)
-    ∙ ap₂ (answered 0) (c .holder-or .ensures .1 ∙ ap (holderIn (a .control) (view (a .s) .entries)) (c .before .default-of .ensures .1)) (sym (pad-view (a .s) (d .pre)))
-    ∙ sym (done (a .s) (d .pre) (ask (a .control)) (rw (le-ltb 31 (a .control) (c .before .before .if1 .left))))
+    let start = c .before .before .before .before in
+    let a = start .args in
+    let s = stateOf (a .d) (a .slots .now) in
+    record {
+      size = start .pre .size;
+      count = start .pre .count;
+      outcome =
+          ap₂ (λ n v. record { number = n; value = v; state = scheduleOf (a .d) (a .slots .now); bytes = []; records = [] }) (c .holder-or .ensures .0)
+          (c .holder-or .ensures .1 ∙ ap (holderIn (a .control) (s .entries)) (c .before .default-of .ensures .1))
+          ∙ sym (does-it (start .pre) (ask (a .control)) (rw (le-ltb 31 (a .control) (c .before .before .before .if1 .left))));
+    }
 
 pub ask-spec : {M : Type 1} → statement M
-ask-spec =
-    tie.close
-    (tie.spec
-    returns
-    (λ c κs. omega arith)
-    (λ c κs. (omega arith, (rules (c .before .before .args .s) (c .before .before .pre) .count, c .default-of .ensures .0)))
-    returns-2)
+ask-spec = tie.close (tie.spec returns (λ c κs. search needs) (λ c κs. search needs) returns-2)

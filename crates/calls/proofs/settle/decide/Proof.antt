@@ -2,18 +2,20 @@
 use Rattle.calls.proofs.settle.decide.Statement.{statement}
 use Rattle.calls.proofs.settle.decide.Tie as tie
 use borrow.Author.Needs.{needs}
-use Prim.Native.Nat.{_-_}
+use Prim.Native.Nat.{_-_, _<_}
 use native.Mathlib.Omega.{arith}
 use mathlib.Core.Path.{_≡_}
 use mathlib.Core.Logic.{⊎-elim}
+use Rattle.calls.specs.Columns.{primaciesOf, createdOf, idsOf}
 use Rattle.calls.specs.Settled.{rankAt}
+use Rattle.calls.proofs.Columned.{ids-long}
 use Rattle.calls.proofs.Deciding.{Best, none, skip, first, ahead, behind, decided, ascending}
 
 abbrev Inv-loop : tie.InvT-loop
-Inv-loop masks₀ primacies created ids n c best₀ i₀ masks best i = Best (rankAt primacies created ids) n c masks₀ masks best i
+Inv-loop masks₀ programs slots n c best₀ i₀ masks best i = Best (rankAt (primaciesOf programs slots) (createdOf slots) (idsOf slots)) n c masks₀ masks best i
 
 abbrev μ-loop : tie.MeasureT-loop
-μ-loop masks₀ primacies created ids n c best₀ i₀ masks best i = n - i
+μ-loop masks₀ programs slots n c best₀ i₀ masks best i = n - i
 
 loop-holds : tie.Need-loop-holds Inv-loop μ-loop
 loop-holds c = none
@@ -28,7 +30,12 @@ is-in-requires : tie.Need-is-in-requires Inv-loop μ-loop
 is-in-requires c κs = search needs
 
 is-ahead-requires : tie.Need-is-ahead-requires Inv-loop μ-loop
-is-ahead-requires c κs = search needs
+is-ahead-requires c κs =
+    let s = c .before .before .before .before .before .before in
+    let l = c .before .before .before .before .before .loop in
+    let i : l .i < s .args .n = c .before .before .before .before .loop-test .taken in
+    let b : l .best < s .args .n = omega (arith, l .inv .bound, c .if2 .left) in
+    (omega (arith, s .pre .0), omega (arith, s .pre .0), s .pre .1 .1 .0, s .pre .1 .1 .1 .1 (l .i) i, s .pre .1 .1 .1 .1 (l .best) b)
 
 take-away-requires : tie.Need-take-away-requires Inv-loop μ-loop
 take-away-requires c κs = search needs
@@ -52,7 +59,7 @@ loop-again c =
     (⊎-elim (λ w. rw (w .6, w .5 .ensures, w .7) (ahead b l e (w .0 .taken) (w .1 .left) (w .2 .ensures) (w .3 .taken)))
     (⊎-elim
     (λ w. rw (w .6, w .5 .ensures, w .7)
-    (behind b l e (w .0 .taken) (w .1 .left) (w .2 .ensures) (w .3 .left) (ascending _ (s .args .ids .now) (omega (arith, s .pre)) (s .pre .1 .1 .1))))
+    (behind b l e (w .0 .taken) (w .1 .left) (w .2 .ensures) (w .3 .left) (ascending _ (idsOf (s .args .slots .now)) (omega (arith, ids-long (s .args .slots .now), s .pre .0, s .pre .1 .1 .0)) (s .pre .1 .1 .1 .0))))
     (λ w. rw (w .1, w .2) (skip b l e (w .0 .left)))))
     (c .if1 .came)
 

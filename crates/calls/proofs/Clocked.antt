@@ -1,0 +1,95 @@
+-- A clock call on a sound schedule: 12, 13, or what the moments leave.
+use mathlib.Core.Path.{_≡_, refl, sym, ap, _∙_, subst}
+use Prim.Native.Nat.{ℕ, _*_, _<_, _≤_}
+use mathlib.Core.Bool.{true, false, _||_}
+use mathlib.Core.List.{List, [], _++_}
+use native.Mathlib.Omega.{arith}
+use borrow.Author.Tests.{ltb-false, lt-ltb, le-ltb}
+use lib.Dec.{ltb}
+use lib.ListN.{length, take, drop}
+use lib.Seq.{take-at, length-take-le}
+use Rattle.rules.specs.declared.Schedule.{Schedule}
+use Rattle.rules.specs.Lists.{over}
+use Rattle.rules.specs.Records.{lastClock, view}
+use Rattle.rules.specs.Moments.{passed}
+use Rattle.rules.specs.Sound.{sound}
+use Rattle.rules.specs.Refusals.{clockChecks}
+use Rattle.rules.specs.Calls.{Outcome, setClock, nothing, count, counted, does, checks, call}
+use Rattle.rules.specs.declared.Answer.the-variants.{Refused, Count}
+use Rattle.rules.proofs.Tests.{either-false}
+use Rattle.rules.proofs.Bound.{few-rows}
+use Rattle.rules.proofs.CallLaws.{done}
+use Rattle.calls.specs.declared.held.Head.{Head}
+use Rattle.calls.specs.declared.advance.Passed.{Passed}
+use Rattle.calls.specs.Slots.{scheduleOf, Ready}
+use Rattle.calls.specs.Advanced.{Advanced, Advances, Reads}
+use Rattle.calls.proofs.Answers.{given}
+
+module _ (s : Schedule) (e : sound s ≡ true) (t : ℕ) where
+  pub out-of-range : (ltb t (s .clock) || ltb lastClock t) ≡ true → (b : List ℕ) → record { number = 12; value = nothing; state = s; bytes = b; records = [] } ≡ call s (setClock t b)
+  unfolding checks clockChecks
+  out-of-range q b = given s e (setClock t b) 12 refl (rw q)
+
+  pub in-range : (ltb t (s .clock) || ltb lastClock t) ≡ false → (s .clock ≤ t) × (t ≤ lastClock)
+  in-range q =
+      let n = either-false (ltb t (s .clock)) (ltb lastClock t) q in
+      (ltb-false t (s .clock) (n .0), ltb-false lastClock t (n .1))
+
+  module _ (q : (ltb t (s .clock) || ltb lastClock t) ≡ false) (rows : List ℕ) (next : Schedule) (n : ℕ) (w : Advanced s t rows next n) where
+    -- there are at most 96 rows
+    pub few : n ≤ 96
+    few = omega (arith, few-rows s e t, w .rows)
+
+    pub fits : (b : List ℕ) → 17 * n ≤ length b → record { number = 0; value = count n; state = next; bytes = over (take (17 * n) rows) b; records = [] } ≡ call s (setClock t b)
+    unfolding checks clockChecks does
+    fits b h =
+        (λ i. record { number = 0; value = count (w .rows i); state = w .schedule i; bytes = over (w .written i) b; records = [] })
+        ∙ sym (done s e (setClock t b) (rw (q, le-ltb (length b) (17 * length (passed (view s) t .rows)) (omega (arith, w .rows)))))
+
+    pub too-short : (b : List ℕ) → length b < 17 * n → record { number = 13; value = nothing; state = s; bytes = b; records = [] } ≡ call s (setClock t b)
+    unfolding checks clockChecks
+    too-short b h = given s e (setClock t b) 13 refl (rw (q, lt-ltb (length b) (17 * length (passed (view s) t .rows)) (omega (arith, w .rows))))
+
+    -- the rows at the front of a buffer that they were written over
+    pub front : (b : List ℕ) → take (17 * n) rows ≡ take (17 * n) (over (take (17 * n) rows) b)
+    front b =
+        let f = take (17 * n) rows in
+        sym (take-at f (drop (length f) b) (17 * n) (length-take-le (17 * n) rows (omega (arith, few, w .size))))
+
+-- On slots.
+
+module _ {d : Head} {w : List (List ℕ)} (r : Ready d w) (t : ℕ) (rows : List ℕ) where
+  -- the bytes at the front are those of an outcome's buffer
+  abbrev Front : Outcome → Type 0
+  Front o = take (17 * counted (o .value)) rows ≡ take (17 * counted (o .value)) (o .bytes)
+
+  pub reads-none : (ltb t (d .clock) || ltb lastClock t) ≡ true → length rows ≡ 1632 → Reads (scheduleOf d w) t (record { answer = Refused 12; head = d }) w rows
+  reads-none q l =
+      let out = out-of-range (scheduleOf d w) (r .good) t q in
+      record {
+        size = r .size;
+        count = r .count;
+        long = l;
+        number = λ b m. ap (λ (o : Outcome). o .number) (out b);
+        value = λ b m. ap (λ (o : Outcome). o .value) (out b);
+        state = λ b m. ap (λ (o : Outcome). o .state) (out b);
+        written = λ b m. subst Front (out b) refl;
+      }
+
+  pub reads-rows : (ltb t (d .clock) || ltb lastClock t) ≡ false → (p : Passed) (next : List (List ℕ)) → Advances d w t rows p next
+      → Reads (scheduleOf d w) t (record { answer = Count (p .rows); head = p .head }) next rows
+  reads-rows q p next a =
+      let v = a .advanced in
+      let s = scheduleOf d w in
+      let end = scheduleOf (p .head) next in
+      let is : (b : List ℕ) → length b ≡ 1632 → record { number = 0; value = count (p .rows); state = end; bytes = over (take (17 * p .rows) rows) b; records = [] } ≡ call s (setClock t b) =
+      λ b m. fits s (r .good) t q rows end (p .rows) v b (omega (arith, few s (r .good) t q rows end (p .rows) v)) in
+      record {
+        size = a .size;
+        count = a .count;
+        long = v .size;
+        number = λ b m. ap (λ (o : Outcome). o .number) (is b m);
+        value = λ b m. ap (λ (o : Outcome). o .value) (is b m);
+        state = λ b m. ap (λ (o : Outcome). o .state) (is b m);
+        written = λ b m. subst Front (is b m) (front s (r .good) t q rows end (p .rows) v b);
+      }

@@ -1,0 +1,34 @@
+-- A call by value is the call on its slots: they are a schedule that it can be made on, and what it leaves in them comes back as a schedule.
+use mathlib.Core.Path.{_≡_, ap, _∙_, subst}
+use Prim.Native.Nat.{ℕ}
+use mathlib.Core.Bool.{true}
+use mathlib.Core.List.{List, []}
+use Rattle.rules.specs.declared.Schedule.{Schedule}
+use Rattle.rules.specs.Sound.{sound}
+use Rattle.rules.specs.Calls.{Call, numberOf, valueOf, call}
+use Rattle.rules.proofs.SoundState.{rules}
+use Rattle.calls.specs.declared.Answered.{Answered}
+use Rattle.calls.specs.declared.Acted.{Acted}
+use Rattle.calls.specs.declared.held.Head.{Head}
+use Rattle.calls.specs.Slots.{headOf, scheduleOf, Apart, Ready}
+use Rattle.calls.specs.Answered.{outcomeOf, Acts}
+use Rattle.calls.specs.declared.advance.Passed.{Passed}
+use Rattle.calls.specs.Advanced.{Advanced, Advances}
+
+module _ (s : Schedule) (d : Head) (w : List (List ℕ)) (q : d ≡ headOf s) (a : Apart s w) where
+  -- head and slots are the schedule
+  pub same-schedule : scheduleOf d w ≡ s
+  same-schedule = ap (λ h. scheduleOf h w) q ∙ a .same
+
+  pub ready : sound s ≡ true → Ready d w
+  ready e = record { size = a .size; count = rw q (rules s e .count); good = ap sound same-schedule ∙ e }
+
+  pub returned : (c : Call) (bytes : List ℕ) (r : Acted) (w′ : List (List ℕ)) → Acts r w′ bytes (call (scheduleOf d w) c)
+      → (b : Answered) → (b .answer ≡ r .answer) × (b .schedule ≡ scheduleOf (r .head) w′) → outcomeOf b bytes [] ≡ call s c
+  returned c bytes r w′ acts b p =
+      (λ i. record { number = numberOf (p .0 i); value = valueOf (p .0 i); state = p .1 i; bytes = bytes; records = [] })
+      ∙ acts .outcome ∙ ap (λ z. call z c) same-schedule
+
+  -- the moments, from the schedule that was given
+  pub advanced-from : (t : ℕ) (rows : List ℕ) (r : Passed) (next : List (List ℕ)) → Advances d w t rows r next → Advanced s t rows (scheduleOf (r .head) next) (r .rows)
+  advanced-from t rows r next v = subst (λ z. Advanced z t rows (scheduleOf (r .head) next) (r .rows)) same-schedule (v .advanced)

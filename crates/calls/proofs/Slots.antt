@@ -1,0 +1,62 @@
+-- What stands in the slots, and the schedule that they are.
+use mathlib.Core.Path.{_≡_, refl, sym, ap, _∙_, subst}
+use Prim.Native.Nat.{ℕ, _%_, _<_, _≤_}
+use mathlib.Core.List.{List, [], map}
+use native.Mathlib.Omega.{arith}
+use lib.ListN.{length, getD, take, set, length-map, List·getD-append}
+use lib.Seq.{getD-take, length-take-le, getD-set-same, getD-set-other}
+use Rattle.rules.specs.declared.Entry.{Entry}
+use Rattle.rules.specs.Records.{mostEvents, noEntry, view}
+use Rattle.rules.proofs.SoundState.{Sound, view-pad, sound-view}
+use Rattle.calls.specs.declared.held.Head.{Head}
+use Rattle.rules.specs.Holding.{withHolding}
+use Rattle.calls.specs.Slots.{entryOf, stateOf, scheduleOf, Ready}
+use Rattle.calls.proofs.Reached.{at-map}
+
+module _ (w : List (List ℕ)) (n : ℕ) (fits : n ≤ length w) where
+  pub in-slots : length (map entryOf (take n w)) ≡ n
+  in-slots = length-map (take n w) entryOf ∙ length-take-le n w fits
+
+  pub slot-at : (k : ℕ) → k < n → getD (map entryOf (take n w)) k noEntry ≡ entryOf (getD w k [])
+  slot-at k l = at-map entryOf [] noEntry (take n w) k (omega (arith, length-take-le n w fits)) ∙ ap entryOf (getD-take n w k [] l)
+
+module _ {d : Head} {w : List (List ℕ)} (r : Ready d w) where
+  pub within : d .count ≤ length w
+  within = omega (arith, r .count, r .size)
+
+  -- as many events as there are slots in use
+  pub count-of : scheduleOf d w .count ≡ d .count
+  count-of = in-slots w (d .count) within
+
+  pub view-of : view (scheduleOf d w) ≡ stateOf d w
+  view-of = view-pad (stateOf d w)
+
+  pub sound-of : Sound (stateOf d w)
+  sound-of = subst Sound view-of (sound-view (scheduleOf d w) (r .good))
+
+  -- the entry at a place is the event in its slot
+  pub entry-at : (k : ℕ) → k < d .count → getD (scheduleOf d w .entries) k noEntry ≡ entryOf (getD w k [])
+  entry-at k l = List·getD-append (stateOf d w .entries) _ noEntry k (omega (arith, count-of)) ∙ slot-at w (d .count) within k l
+
+module _ (slot : List ℕ) (l : length slot ≡ 13) where
+  -- a slot with another mask
+  pub mask-in : (m : ℕ) → m % 4294967296 ≡ m → entryOf (set slot 11 m) ≡ withHolding (entryOf slot) (record { held = m })
+  unfolding entryOf
+  mask-in m e =
+      let same : (j : ℕ) → (j ≡ 11 → ⊥) → getD (set slot 11 m) j 0 ≡ getD slot j 0 = λ j d. getD-set-other slot 11 j m 0 d in
+      rw (
+        same 0 (λ q. omega arith),
+        same 1 (λ q. omega arith),
+        same 2 (λ q. omega arith),
+        same 3 (λ q. omega arith),
+        same 4 (λ q. omega arith),
+        same 5 (λ q. omega arith),
+        same 6 (λ q. omega arith),
+        same 7 (λ q. omega arith),
+        same 8 (λ q. omega arith),
+        same 9 (λ q. omega arith),
+        same 10 (λ q. omega arith),
+        same 12 (λ q. omega arith),
+        getD-set-same slot 11 m 0 (omega arith),
+        e,
+      )
