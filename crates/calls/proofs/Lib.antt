@@ -22,7 +22,6 @@ pub mod Returned
 pub mod Clocked
 pub mod Shifts
 pub mod Asking
-pub mod Framed
 pub mod Ends
 pub mod Said
 pub mod Longest

@@ -1,7 +1,7 @@
 -- A moment over columns is the moment of the definitions.
 use mathlib.Core.Path.{_≡_, refl, sym, ap, ap₂, _∙_, subst}
 use mathlib.Core.Logic.{_⊎_, inl, inr, ⊎-elim}
-use Prim.Native.Nat.{ℕ, zero, suc, _+_, _-_, _<_, _≤_}
+use Prim.Native.Nat.{ℕ, zero, suc, _+_, _-_, _<_, _≤_, min}
 use mathlib.Core.Bool.{Bool, true, false, cond}
 use mathlib.Core.List.{List, [], _∷_, _++_, map, map-append}
 use native.Mathlib.Omega.{arith}
@@ -19,9 +19,8 @@ use Rattle.rules.specs.Rows.{codeAt, rowOf, rowsWith, rowsFrom, rowsAt}
 use Rattle.rules.specs.Moments.{lasts}
 use Rattle.rules.proofs.Jump.{Idle}
 use Rattle.rules.proofs.ListLaws.{in-keep}
-use Rattle.calls.specs.Held.{Columns}
 use Rattle.calls.specs.Columns.{claimOf, codeOf, Claims, Codes, nearest, nextOf, rowIf, codedRows, momentRows}
-use Rattle.calls.specs.Held.{Columned}
+use Rattle.calls.specs.Held.{Columns, Columned}
 use Rattle.calls.specs.Settled.{Claimant, claimants, takenFrom, settled}
 use Rattle.calls.proofs.Reached.{in-at, at-map}
 use Rattle.calls.proofs.Undropped.{settledAt}
@@ -165,6 +164,18 @@ module _ (ps : List Program) (hs us : List Entry) (n : ℕ) (c : Columns) (w : C
       step h = withHolding h (holdingAt ps t us h)
 
 -- The next moment.
+
+-- the sooner of two may be taken before or after
+pub nearest-sooner : (clock x best t : ℕ) → min t (nearest clock x best) ≡ nearest clock x (min t best)
+unfolding nearest
+nearest-sooner clock x best t = go (leb x clock) (ltb x best) (ltb x (min t best)) refl refl
+  where
+    go : (a b c : Bool) → ltb x best ≡ b → ltb x (min t best) ≡ c → min t (cond a best (cond b x best)) ≡ cond a (min t best) (cond c x (min t best))
+    go true b c p q = refl
+    go false true true p q = omega (arith, ltb-true x best p, ltb-true x (min t best) q)
+    go false true false p q = omega (arith, ltb-true x best p, ltb-false x (min t best) q)
+    go false false true p q = omega (arith, ltb-false x best p, ltb-true x (min t best) q)
+    go false false false p q = refl
 
 nearest-after : (clock x best : ℕ) → clock < best → (clock < nearest clock x best) × (nearest clock x best ≤ best) × ((x ≤ clock) ⊎ (nearest clock x best ≤ x))
 unfolding nearest

@@ -3,6 +3,7 @@ use mathlib.Core.Path.{_≡_, ap, _∙_, subst}
 use Prim.Native.Nat.{ℕ}
 use mathlib.Core.Bool.{true}
 use mathlib.Core.List.{List, []}
+use Rattle.rules.specs.declared.Answer.{Answer}
 use Rattle.rules.specs.declared.Schedule.{Schedule}
 use Rattle.rules.specs.Sound.{sound}
 use Rattle.rules.specs.Calls.{Call, numberOf, valueOf, call}
@@ -11,7 +12,7 @@ use Rattle.calls.specs.declared.Answered.{Answered}
 use Rattle.calls.specs.declared.Acted.{Acted}
 use Rattle.calls.specs.declared.held.Head.{Head}
 use Rattle.calls.specs.Slots.{headOf, scheduleOf, Apart, Ready}
-use Rattle.calls.specs.Answered.{outcomeOf, Acts}
+use Rattle.calls.specs.Answered.{outcomeOf, told, Acts}
 use Rattle.calls.specs.declared.advance.Passed.{Passed}
 use Rattle.calls.specs.Advanced.{Advanced, Advances}
 
@@ -28,6 +29,10 @@ module _ (s : Schedule) (d : Head) (w : List (List ℕ)) (q : d ≡ headOf s) (a
   returned c bytes r w′ acts b p =
       (λ i. record { number = numberOf (p .0 i); value = valueOf (p .0 i); state = p .1 i; bytes = bytes; records = [] })
       ∙ acts .outcome ∙ ap (λ z. call z c) same-schedule
+
+  -- a call that leaves it as it is
+  pub told-of : (c : Call) (a : Answer) → told a (scheduleOf d w) ≡ call (scheduleOf d w) c → told a s ≡ call s c
+  told-of c a e = subst (λ z. told a z ≡ call z c) same-schedule e
 
   -- the moments, from the schedule that was given
   pub advanced-from : (t : ℕ) (rows : List ℕ) (r : Passed) (next : List (List ℕ)) → Advances d w t rows r next → Advanced s t rows (scheduleOf (r .head) next) (r .rows)

@@ -3,7 +3,9 @@ use mathlib.Core.Path.{_≡_}
 use Prim.Native.Nat.{ℕ, _≤_}
 use mathlib.Core.List.{List, []}
 use lib.ListN.{length}
+use Rattle.rules.specs.declared.Answer.{Answer}
 use Rattle.rules.specs.declared.Record.{Record}
+use Rattle.rules.specs.declared.Schedule.{Schedule}
 use Rattle.rules.specs.Records.{mostEvents}
 use Rattle.rules.specs.Calls.{Outcome, numberOf, valueOf}
 use Rattle.calls.specs.declared.Answered.{Answered}
@@ -14,6 +16,10 @@ use Rattle.calls.specs.Slots.{scheduleOf}
 abbrev pub outcomeOf : Answered → List ℕ → List Record → Outcome
 outcomeOf r bytes records =
     record { number = numberOf (r .answer); value = valueOf (r .answer); state = r .schedule; bytes = bytes; records = records }
+
+-- the same of a call that leaves the schedule as it is, and is lent nothing
+abbrev pub told : Answer → Schedule → Outcome
+told a s = record { number = numberOf a; value = valueOf a; state = s; bytes = []; records = [] }
 
 -- the same of a call on slots
 abbrev pub outcomeIn : Acted → List (List ℕ) → List ℕ → Outcome

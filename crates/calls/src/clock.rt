@@ -1,7 +1,7 @@
 // A moment, over slots and columns of plain numbers. Nothing is dropped on the way: an event that has ended claims nothing and gives no row, so it is enough to
 // drop it after the last moment.
 ghost use mathlib.Core.Path.{_≡_};
-ghost use Prim.Native.Nat.{ℕ, _+_, _≤_, _<_};
+ghost use Prim.Native.Nat.{ℕ, _+_, _≤_, _<_, min};
 ghost use mathlib.Core.Bool.{false};
 ghost use mathlib.Core.List.{[]};
 ghost use lib.ListN.{length, getD};
@@ -96,7 +96,18 @@ pub(crate) fn nearer(clock: u64, x: u64, best: u64) -> u64
     best
 }
 
-// The next moment at which one of the first n begins or ends, `limit` if there is none before it.
+// The sooner of two moments.
+fn sooner(a: u64, b: u64) -> u64
+    ensures { λ r. ⌜ r ≡ min a b ⌝ }
+{
+    if b < a {
+        return b;
+    }
+    a
+}
+
+// The next moment at which one of the first n begins or ends, `limit` if there is none before it. Each event's own is found first, so that no event waits for the
+// one before it.
 pub(crate) fn next_moment(
     clock: u64,
     limit: u64,
@@ -110,7 +121,10 @@ pub(crate) fn next_moment(
     let mut t = limit;
     let mut i = 0;
     while i < n {
-        t = nearer(clock, slots[i][10], nearer(clock, ends[i], t));
+        t = sooner(
+            t,
+            nearer(clock, slots[i][10], nearer(clock, ends[i], limit)),
+        );
         i += 1;
     }
     t

@@ -132,8 +132,11 @@ pub fn ask(s: Schedule, control: u8) -> Answered
     }
     let mut slots = [[0u64; 13]; 48];
     held::take_apart(s, &mut slots);
-    let done = programs::ask(held::head_of(s), &slots, control);
-    by_value(done, &slots)
+    let answer = programs::ask(held::head_of(s), &slots, control);
+    Answered {
+        answer,
+        schedule: s,
+    }
 }
 
 // Numbers given, 1. A line is decoded and its call made; the buffer is lent for the rows of a clock reading.

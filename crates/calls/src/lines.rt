@@ -31,7 +31,10 @@ fn act_on(d: Head, slots: &mut [[u64; 13]; 48], f: Frame, rows: &mut [u8; 1632])
         Frame::Cancel(id) => events::cancel(d, slots, id),
         Frame::Clock(t) => reading::pass(d, slots, t, rows),
         Frame::Program(n, p, m) => programs::add_program(d, n, p, m),
-        Frame::Ask(c) => programs::ask(d, slots, c),
+        Frame::Ask(c) => Acted {
+            answer: programs::ask(d, slots, c),
+            head: d,
+        },
     }
 }
 

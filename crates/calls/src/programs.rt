@@ -6,7 +6,7 @@ ghost use lib.ListN.{length, take, getD};
 ghost use Rattle.rules.specs.Records.{mostEvents, has};
 ghost use Rattle.rules.specs.Calls.{call, addProgram, ask, numberOf, valueOf, holderIn, bestOf, bestDefault, defaultFor};
 ghost use Rattle.calls.specs.Slots.{entryOf, scheduleOf, Ready};
-ghost use Rattle.calls.specs.Answered.{Acts};
+ghost use Rattle.calls.specs.Answered.{told, Acts};
 ghost use Rattle.calls.specs.Best.{ranked, carrying};
 use crate::Acted;
 use crate::held::Head;
@@ -129,21 +129,16 @@ fn holder_or(slots: &[[u64; 13]; 48], n: usize, control: u32, other: Answer) -> 
     other
 }
 
-pub(crate) fn ask(d: Head, slots: &[[u64; 13]; 48], control: u8) -> Acted
+// Calls, ask for a control. Nothing changes.
+pub(crate) fn ask(d: Head, slots: &[[u64; 13]; 48], control: u8) -> Answer
     requires { ⌜ Ready d (now slots) ⌝ }
-    ensures { λ r. ⌜ Acts r (now (slots .entry)) [] (call (scheduleOf d (now (slots .entry))) (ask control)) ⌝ }
+    ensures { λ r. ⌜ told r (scheduleOf d (now (slots .entry))) ≡ call (scheduleOf d (now (slots .entry))) (ask control) ⌝ }
 {
     if 31 < control {
-        return Acted {
-            answer: Answer::Refused(14),
-            head: d,
-        };
+        return Answer::Refused(14);
     }
     let c = control as u32;
     let programs = d.programs;
     let other = default_of(programs, c);
-    Acted {
-        answer: holder_or(slots, d.count, c, other),
-        head: d,
-    }
+    holder_or(slots, d.count, c, other)
 }

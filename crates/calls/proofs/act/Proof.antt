@@ -1,11 +1,16 @@
 -- 1, or the call of the frame.
 use mathlib.Core.Path.{ap}
+use Prim.Native.Nat.{ℕ}
+use mathlib.Core.List.{List, []}
 use borrow.Author.Needs.{needs}
 use Rattle.rules.specs.Calls.{Outcome}
 use Rattle.calls.specs.Lines.{lineOutcome, frameOutcome}
-use Rattle.calls.proofs.Framed.{beside}
 use Rattle.calls.proofs.act.Statement.{statement}
 use Rattle.calls.proofs.act.Tie as tie
+
+-- an outcome with what the buffer holds
+abbrev beside : List ℕ → Outcome → Outcome
+beside b o = record { number = o .number; value = o .value; state = o .state; bytes = b; records = [] }
 
 returns : tie.Need-returns
 unfolding lineOutcome

@@ -6,7 +6,7 @@ use borrow.Author.Tests.{not-true, not-false}
 use Rattle.rules.specs.Sound.{sound}
 use Rattle.rules.specs.Calls.{ask}
 use Rattle.calls.proofs.Answers.{broken}
-use Rattle.calls.proofs.Returned.{ready, returned}
+use Rattle.calls.proofs.Returned.{ready, told-of}
 use Rattle.calls.proofs.ask.Statement.{statement}
 use Rattle.calls.proofs.ask.Tie as tie
 
@@ -25,13 +25,9 @@ ask-requires c κs =
 
 returns-2 : tie.Need-returns-2
 returns-2 c =
-    let a = c .before .before .before .before .before .before .before .before .before .args in
-    let head = c .before .before .before .before .head-of in
-    let apart = c .before .before .before .before .before .take-apart in
-    let call = c .before .before .ask in
-    returned (a .s) (head .result) _ (head .ensures) (apart .ensures) (ask (a .control)) _ (call .result) _ (call .ensures) (c .by-value .result) (c .by-value .ensures)
+    let a = c .before .before .before .before .before .before .before .args in
+    let head = c .before .before .head-of in
+    told-of (a .s) (head .result) _ (head .ensures) (c .before .before .before .take-apart .ensures) (ask (a .control)) (c .ask .result) (c .ask .ensures)
 
 pub ask-spec : {M : Type 1} → statement M
-ask-spec =
-    tie.close
-    (tie.spec (λ c κs. search needs) returns (λ c κs. (good (c .before), refl)) (λ c κs. search needs) ask-requires (λ c κs. (c .before .ask .ensures .size, c .before .ask .ensures .count)) returns-2)
+ask-spec = tie.close (tie.spec (λ c κs. search needs) returns (λ c κs. (good (c .before), refl)) (λ c κs. search needs) ask-requires returns-2)

@@ -1,6 +1,6 @@
 -- The loop has looked at the first i.
 use mathlib.Core.Path.{_≡_, refl, sym, ap, _∙_}
-use Prim.Native.Nat.{_-_, _≤_}
+use Prim.Native.Nat.{_-_, _≤_, min}
 use mathlib.Core.List.{[]}
 use native.Mathlib.Numerals.{add-one}
 use native.Mathlib.Omega.{arith}
@@ -8,31 +8,39 @@ use borrow.Author.Needs.{needs}
 use lib.ListN.{length, getD}
 use Rattle.calls.specs.Columns.{beginsOf, nearest, nextOf}
 use Rattle.calls.proofs.Columned.{begins-at}
+use Rattle.calls.proofs.Moment.{nearest-sooner}
 use Rattle.calls.proofs.clock.next_moment.Statement.{statement}
 use Rattle.calls.proofs.clock.next_moment.Tie as tie
 
 abbrev Inv-loop : tie.InvT-loop
-Inv-loop clock limit slots ends n t₀ i₀ t i = (i ≤ n) × (n ≤ 48) × (length slots ≡ 48) × (t ≡ nextOf clock limit i (beginsOf slots) ends)
+Inv-loop clock limit slots ends n t₀ i₀ t i = (i ≤ n) × (n ≤ 48) × (length slots ≡ 48) × (t ≡ nextOf clock limit i (beginsOf slots) ends) × (t ≤ limit)
 
 abbrev μ-loop : tie.MeasureT-loop
 μ-loop clock limit slots ends n t₀ i₀ t i = n - i
 
 loop-holds : tie.Need-loop-holds Inv-loop μ-loop
 unfolding nextOf
-loop-holds c = (omega arith, c .pre .0, c .pre .1, refl)
+loop-holds c = (omega arith, c .pre .0, c .pre .1, refl, omega arith)
 
 loop-again : tie.Need-loop-again Inv-loop μ-loop
 unfolding nextOf
 loop-again c =
-    let l = c .before .before .before .before .before .loop in
-    let a = c .before .before .before .before .before .before .args in
-    let w = a .slots .now in (
+    let l = c .before .before .before .before .before .before .loop in
+    let a = c .before .before .before .before .before .before .before .args in
+    let w = a .slots .now in
+    let b = getD (getD w (l .i) []) 10 0 in
+    let e = getD (a .ends .now) (l .i) 0 in
+    let within : min (l .t) (a .limit) ≡ l .t = omega (arith, l .inv .4) in (
       omega arith,
       l .inv .1,
       l .inv .2,
-      c .nearer2 .ensures
-          ∙ rw (begins-at w (l .i) (omega (arith, l .inv .1, l .inv .2))) (ap (nearest (a .clock) (getD (getD w (l .i) []) 10 0)) (c .before .nearer .ensures ∙ ap (nearest (a .clock) (getD (a .ends .now) (l .i) 0)) (l .inv .3)))
+      c .sooner .ensures
+          ∙ rw (begins-at w (l .i) (omega (arith, l .inv .1, l .inv .2)))
+          (ap (min (l .t)) (c .before .nearer2 .ensures ∙ ap (nearest (a .clock) b) (c .before .before .nearer .ensures))
+          ∙ nearest-sooner (a .clock) b _ (l .t)
+          ∙ ap (nearest (a .clock) b) (nearest-sooner (a .clock) e (a .limit) (l .t) ∙ ap (nearest (a .clock) e) (within ∙ l .inv .3)))
           ∙ ap (λ k. nextOf (a .clock) (a .limit) k (beginsOf w) (a .ends .now)) (sym (add-one (l .i))),
+      omega (arith, c .sooner .ensures, l .inv .4),
     )
 
 returns : tie.Need-returns Inv-loop μ-loop
@@ -53,6 +61,7 @@ next-moment-spec =
     (λ c. search needs)
     (λ c. search needs)
     (λ c. search needs)
+    (λ c κs. search needs)
     (λ c κs. search needs)
     (λ c κs. search needs)
     (λ c. omega arith)

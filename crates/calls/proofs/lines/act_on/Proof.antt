@@ -18,7 +18,9 @@ returns-4 : tie.Need-returns-4
 returns-4 c = rw (c .before .before .f4 .given .1) (on-program _ _ _ (c .before .before .before .before .pre .1) (c .add-program .ensures _ (c .before .before .before .before .pre .0)))
 
 returns-5 : tie.Need-returns-5
-returns-5 c = rw (c .before .before .before .f5 .given .1) (on-ask _ (c .before .before .before .before .before .pre .1) (c .ask .ensures))
+returns-5 c =
+    let pre = c .before .before .before .before .before .pre in
+    rw (c .before .before .before .f5 .given .1) (on-ask _ (pre .1) (record { size = pre .0 .size; count = pre .0 .count; outcome = c .ask .ensures }))
 
 pub act-on-spec : {M : Type 1} → statement M
 act-on-spec =

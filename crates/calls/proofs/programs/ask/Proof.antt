@@ -14,7 +14,7 @@ returns : tie.Need-returns
 unfolding checks askChecks
 returns c =
     let a = c .before .args in
-    refuses (c .before .pre) (ask (a .control)) 14 refl refl (rw (lt-ltb 31 (a .control) (c .if1 .taken)))
+    refuses (c .before .pre) (ask (a .control)) 14 refl refl (rw (lt-ltb 31 (a .control) (c .if1 .taken))) .outcome
 
 returns-2 : tie.Need-returns-2
 unfolding checks askChecks does answerFor
@@ -22,14 +22,9 @@ returns-2 c =
     let start = c .before .before .before .before in
     let a = start .args in
     let s = stateOf (a .d) (a .slots .now) in
-    record {
-      size = start .pre .size;
-      count = start .pre .count;
-      outcome =
-          ap₂ (λ n v. record { number = n; value = v; state = scheduleOf (a .d) (a .slots .now); bytes = []; records = [] }) (c .holder-or .ensures .0)
-          (c .holder-or .ensures .1 ∙ ap (holderIn (a .control) (s .entries)) (c .before .default-of .ensures .1))
-          ∙ sym (does-it (start .pre) (ask (a .control)) (rw (le-ltb 31 (a .control) (c .before .before .before .if1 .left))));
-    }
+    ap₂ (λ n v. record { number = n; value = v; state = scheduleOf (a .d) (a .slots .now); bytes = []; records = [] }) (c .holder-or .ensures .0)
+    (c .holder-or .ensures .1 ∙ ap (holderIn (a .control) (s .entries)) (c .before .default-of .ensures .1))
+    ∙ sym (does-it (start .pre) (ask (a .control)) (rw (le-ltb 31 (a .control) (c .before .before .before .if1 .left))))
 
 pub ask-spec : {M : Type 1} → statement M
 ask-spec = tie.close (tie.spec returns (λ c κs. search needs) (λ c κs. search needs) returns-2)
