@@ -5,8 +5,8 @@ use mathlib.Core.Bool.{Bool, true, false, cond}
 use mathlib.Core.List.{List, [], _∷_, _++_, map, append-assoc, append-nil}
 use native.Mathlib.Omega.{arith}
 use lib.Dec.{ltb}
-use lib.ListN.{length, take, getD, length-append}
-use lib.Seq.{getD-take, take-suc, take-length}
+use lib.ListN.{length, take, getD, length-append, length-map}
+use lib.Seq.{getD-take, ext-getD}
 use borrow.Author.Tests.{lt-ltb}
 use Rattle.rules.specs.declared.Entry.{Entry}
 use Rattle.rules.specs.declared.Program.{Program}
@@ -28,14 +28,15 @@ use Rattle.calls.specs.Slots.{entryOf, stateOf, scheduleOf, Ready}
 use Rattle.calls.specs.Columns.{stoppedOf, beginsOf, controlsOf, primaciesOf, createdOf, idsOf, Numbered, Dated, Claims, Codes, nextOf, momentRows, Written}
 use Rattle.calls.specs.Held.{Columns, columnsOf, Columned, Long}
 use Rattle.calls.specs.Settled.{claimants, settled}
-use Rattle.calls.specs.Finished.{lastingOf, Finished}
-use Rattle.calls.specs.Advanced.{Advanced}
+use Rattle.calls.specs.Live.{placesTo, masked}
+use Rattle.calls.specs.Advanced.{Passes}
 use Rattle.calls.proofs.Reached.{at-in, at-map}
 use Rattle.calls.proofs.Slots.{within, slot-at, count-of, sound-of, entry-at}
 use Rattle.calls.proofs.Columned.{primacies-long, created-long, ids-long}
 use Rattle.calls.proofs.Puts.{no-row, rows-then}
 use Rattle.calls.proofs.Undropped.{settledAt, stateIn, quiet-to, moment-then, sound-moment}
-use Rattle.calls.proofs.Moment.{Now, front-is, keep-append, is-end, is-begins, kept-are, codes-are, rows-are, now-next, next-after, next-idle}
+use Rattle.calls.proofs.Asleep.{places-length, place-at}
+use Rattle.calls.proofs.Moment.{Now, front-is, is-end, is-begins, kept-are, codes-are, rows-are, now-next, next-after, next-idle}
 
 -- after the moments up to a clock
 pub record Going (s : Schedule) (to n : ℕ) (c : Columns) (old rows held : List ℕ) (clock at : ℕ) : Type 0 where
@@ -55,9 +56,10 @@ pub record Going (s : Schedule) (to n : ℕ) (c : Columns) (old rows held : List
   pub written : Written old 0 rows at done
 
 -- before the first: nothing has ended
-pub start : (s : Schedule) (to : ℕ) (c : Columns) (old : List ℕ) → sound s ≡ true → s .clock ≤ to → to ≤ lastClock → length old ≡ 1632
-    → Columned (s .programs) (s .entries) (s .count) c → Long c → Going s to (s .count) c old old (c .held) (s .clock) 0
-start s to c old good h l size w long =
+pub start : (s : Schedule) (to : ℕ) (c : Columns) (old held : List ℕ) → sound s ≡ true → s .clock ≤ to → to ≤ lastClock → length old ≡ 1632
+    → Columned (s .programs) (s .entries) (s .count) c → Long c → ((k : ℕ) → k < s .count → getD held k 0 ≡ getD (s .entries) k noEntry .held)
+    → Going s to (s .count) c old old held (s .clock) 0
+start s to c old held good h l size w long masks =
     let us = view s .entries in
     let all : keep (lasts (s .clock)) us ≡ us = keep-all (lasts (s .clock)) us (λ o m. lt-ltb (s .clock) (endOf o) (sound-view s good .entries o m .lasts)) in
     let same : view s ≡ stateIn (s .programs) us (s .clock) = ap (λ hs. record { clock = s .clock; programs = s .programs; entries = hs }) (sym all) in
@@ -74,7 +76,7 @@ start s to c old good h l size w long =
       now = record {
         size = in-count s good;
         alike = λ k i. let e = getD-take (s .count) (s .entries) k noEntry i in record { event = ap (λ o. o .event) e; begins = ap (λ o. o .begins) e; cancelled = ap (λ o. o .cancelled) e };
-        held = λ k i. w .held k i ∙ sym (ap (λ o. o .held) (getD-take (s .count) (s .entries) k noEntry i));
+        held = λ k i. masks k i ∙ sym (ap (λ o. o .held) (getD-take (s .count) (s .entries) k noEntry i));
       };
       state = subst Sound same (sound-view s good);
       split = ap (λ v. advance (to - s .clock) v) same;
@@ -170,28 +172,6 @@ module _ {s : Schedule} {to n : ℕ} {c : Columns} {old rows held : List ℕ} {c
     -- No moment up to the reading any more.
 
     module _ (h : to < t) where
-      lasting-one : (i : ℕ) → i < n → (b : Bool) → ltb to (endOf (getD (g .us) i noEntry)) ≡ b
-          → cond b (withHolding (getD (s .entries) i noEntry) (record { held = getD held i 0 }) ∷ []) [] ≡ cond b (getD (g .us) i noEntry ∷ []) []
-      lasting-one i l true e = let a = g .now .alike i l in
-          ap (λ o. o ∷ []) (λ j. record { event = sym (a .event) j; begins = sym (a .begins) j; held = g .now .held i l j; cancelled = sym (a .cancelled) j })
-      lasting-one i l false e = refl
-
-      lasting-are : (i : ℕ) → i ≤ n → lastingOf to i (s .entries) (c .ends) held ≡ keep (lasts to) (take i (g .us))
-      unfolding lastingOf
-      lasting-are zero l = refl
-      lasting-are (suc i) l =
-          let o = getD (g .us) i noEntry in
-          ap₂ _++_ (lasting-are i (omega arith))
-          (ap (λ x. cond (ltb to x) (withHolding (getD (s .entries) i noEntry) (record { held = getD held i 0 }) ∷ []) []) (is-end ps (s .entries) (g .us) n c (g .columned) held (g .now) t i (omega arith))
-          ∙ lasting-one i (omega arith) (ltb to (endOf o)) refl)
-          ∙ sym (keep-append (lasts to) (take i (g .us)) (o ∷ []))
-          ∙ ap (keep (lasts to)) (sym (take-suc (g .us) i noEntry (omega (arith, g .now .size))))
-
-      all-lasting : lastingOf to (s .count) (s .entries) (c .ends) held ≡ keep (lasts to) (g .us)
-      all-lasting =
-          ap (λ k. lastingOf to k (s .entries) (c .ends) held) (sym (g .count)) ∙ lasting-are n (omega arith)
-          ∙ ap (keep (lasts to)) (ap (λ m. take m (g .us)) (sym (g .now .size)) ∙ take-length (g .us))
-
       quiet : advance (to - clock) (stateIn ps (g .us) clock) ≡ record { state = stateIn ps (g .us) to; rows = [] }
       quiet = quiet-to ps (g .us) clock (t - suc clock) (g .state) (omega (arith, after-now .0, after-now .1, g .last)) still to (omega (arith, after-now .0, after-now .1))
 
@@ -200,9 +180,21 @@ module _ {s : Schedule} {to n : ℕ} {c : Columns} {old rows held : List ℕ} {c
           g .split ∙ ap (onward (record { state = stateIn ps (g .us) clock; rows = g .done })) quiet
           ∙ ap (λ rs. record { state = stateIn ps (g .us) to; rows = rs }) (append-nil (g .done))
 
-      pub stop : (end : State) → end .clock ≡ to → end .programs ≡ ps → end .entries ≡ lastingOf to (s .count) (s .entries) (c .ends) held → Advanced s to rows (pad end) at
-      stop end k p f = record {
-        schedule = ap pad (λ i. record { clock = k i; programs = p i; entries = (f ∙ all-lasting) i }) ∙ ap (λ m. pad (m .state)) (sym there);
+      -- the entries as they stand are the first ones with their masks
+      all-masked : g .us ≡ masked (s .count) (s .entries) held
+      unfolding masked
+      all-masked =
+          let f : ℕ → Entry = λ j. withHolding (getD (s .entries) j noEntry) (record { held = getD held j 0 }) in
+          let size : length (placesTo (s .count)) ≡ n = places-length (s .count) ∙ sym (g .count) in
+          ext-getD noEntry (g .us) (map f (placesTo (s .count))) (g .now .size ∙ sym (length-map (placesTo (s .count)) f ∙ size))
+          (λ k l. let a = g .now .alike k (omega (arith, g .now .size)) in
+          (λ j. record { event = a .event j; begins = a .begins j; held = sym (g .now .held k (omega (arith, g .now .size))) j; cancelled = a .cancelled j })
+          ∙ sym (at-map f 0 noEntry (placesTo (s .count)) k (omega (arith, size, g .now .size)) ∙ ap f (place-at (s .count) k (omega (arith, g .count, g .now .size)))))
+
+      pub stop : length held ≡ 48 → Passes s to rows at held
+      stop long = record {
+        masks = long;
+        state = ap (λ m. m .state) there ∙ ap (λ us. stateIn ps us to) all-masked;
         rows = omega (arith, g .written .count, ap (λ m. length (m .rows)) there);
         written = g .written .front ∙ ap (λ m. bytes (m .rows)) (sym there);
         size = g .written .size ∙ g .size;
@@ -218,7 +210,7 @@ module _ {d : Head} {w : List (List ℕ)} (r : Ready d w) where
   column : {A : Type 0} (f : Entry → A) (e : A) (k : ℕ) → k < d .count → getD (map (λ x. f (entryOf x)) w) k e ≡ f (getD (whole-of .entries) k noEntry)
   column f e k l = at-map (λ x. f (entryOf x)) [] e w k (omega (arith, within r)) ∙ sym (ap f (entry-at r k l))
 
-  columned : (ends held : List ℕ) → Dated (d .count) w ends held → Columned (d .programs) (whole-of .entries) (d .count) (columnsOf (d .programs) w ends held)
+  columned : (ends held : List ℕ) → Dated (d .count) w ends held → Columned (d .programs) (whole-of .entries) (d .count) (columnsOf (d .programs) w ends)
   unfolding stoppedOf beginsOf controlsOf primaciesOf createdOf idsOf
   columned ends held t = record {
     stopped = column (λ h. h .cancelled) false;
@@ -228,35 +220,22 @@ module _ {d : Head} {w : List (List ℕ)} (r : Ready d w) where
     primacies = column (λ h. programAt (d .programs) (h .event .program) .primacy) 0;
     created = column (λ h. h .event .created) 0;
     ids = column (λ h. idOf (h .event)) 0;
-    held = λ k l. t .masks k l ∙ sym (ap (λ h. h .held) (entry-at r k l));
   }
 
-  long-of : (ends held : List ℕ) → Long (columnsOf (d .programs) w ends held)
-  long-of ends held = record { primacies = primacies-long w (d .programs) ∙ r .size; created = created-long w ∙ r .size; ids = ids-long w ∙ r .size }
+  long-of : (ends : List ℕ) → Long (columnsOf (d .programs) w ends)
+  long-of ends = record { primacies = primacies-long w (d .programs) ∙ r .size; created = created-long w ∙ r .size; ids = ids-long w ∙ r .size }
 
   pub begin : (to : ℕ) (ends held old : List ℕ) → d .clock ≤ to → to ≤ lastClock → length old ≡ 1632 → Dated (d .count) w ends held
-      → Going whole-of to (d .count) (columnsOf (d .programs) w ends held) old old held (d .clock) 0
+      → Going whole-of to (d .count) (columnsOf (d .programs) w ends) old old held (d .clock) 0
   begin to ends held old h l size t =
-      subst (λ n. Going whole-of to n (columnsOf (d .programs) w ends held) old old held (d .clock) 0) (count-of r)
-      (start whole-of to (columnsOf (d .programs) w ends held) old (r .good) h l size
-      (subst (λ n. Columned (d .programs) (whole-of .entries) n (columnsOf (d .programs) w ends held)) (sym (count-of r)) (columned ends held t)) (long-of ends held))
+      let c = columnsOf (d .programs) w ends in
+      subst (λ n. Going whole-of to n c old old held (d .clock) 0) (count-of r)
+      (start whole-of to c old held (r .good) h l size
+      (subst (λ n. Columned (d .programs) (whole-of .entries) n c) (sym (count-of r)) (columned ends held t)) (long-of ends)
+      (λ k i. let j : k < d .count = omega (arith, count-of r) in t .masks k j ∙ sym (ap (λ h. h .held) (entry-at r k j))))
 
   -- the events of sound slots have programs
   pub numbered : Numbered (d .count) w
   numbered k l =
       let it = sound-of r .entries (getD (stateOf d w .entries) k noEntry) (at-in noEntry (stateOf d w .entries) k (omega (arith, count-of r))) in
       omega (arith, rw (slot-at w (d .count) (within r) k l) at (it .numbered))
-
-  -- what lasts hangs on the entries in use alone
-  same-lasting : (to : ℕ) (ends held : List ℕ) (i : ℕ) → i ≤ d .count → lastingOf to i (map entryOf w) ends held ≡ lastingOf to i (whole-of .entries) ends held
-  unfolding lastingOf
-  same-lasting to ends held zero l = refl
-  same-lasting to ends held (suc i) l =
-      ap₂ (λ f (h : Entry). f ++ cond (ltb to (getD ends i 0)) (withHolding h (record { held = getD held i 0 }) ∷ []) [])
-      (same-lasting to ends held i (omega arith))
-      (at-map entryOf [] noEntry w i (omega (arith, within r)) ∙ sym (entry-at r i (omega arith)))
-
-  pub lasting-of : (to : ℕ) (ends held : List ℕ) (next : List (List ℕ)) (k : ℕ) → Finished to (d .count) w ends held next k
-      → map entryOf (take k next) ≡ lastingOf to (whole-of .count) (whole-of .entries) ends held
-  lasting-of to ends held next k f =
-      f .lasting ∙ same-lasting to ends held (d .count) (omega arith) ∙ ap (λ n. lastingOf to n (whole-of .entries) ends held) (sym (count-of r))

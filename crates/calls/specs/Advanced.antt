@@ -5,17 +5,27 @@ use mathlib.Core.List.{List}
 use lib.ListN.{length, take}
 use Rattle.rules.specs.declared.Schedule.{Schedule}
 use Rattle.rules.specs.Records.{mostEvents, view, pad}
+use Rattle.rules.specs.Lists.{keep}
 use Rattle.rules.specs.Bytes.{bytes}
-use Rattle.rules.specs.Moments.{passed}
+use Rattle.rules.specs.Moments.{lasts, passed}
 use Rattle.rules.specs.Calls.{numberOf, valueOf, counted, setClock, call}
 use Rattle.calls.specs.declared.Acted.{Acted}
 use Rattle.calls.specs.declared.advance.Passed.{Passed}
 use Rattle.calls.specs.declared.held.Head.{Head}
 use Rattle.calls.specs.Slots.{scheduleOf}
+use Rattle.calls.specs.Live.{masked}
 
 -- the schedule at the reading, how many rows there are, and their bytes at the front of the buffer
 pub record Advanced (s : Schedule) (reading : ℕ) (buffer : List ℕ) (next : Schedule) (count : ℕ) : Type 0 where
   pub schedule : next ≡ pad (passed (view s) reading .state)
+  pub rows : count ≡ length (passed (view s) reading .rows)
+  pub written : take (17 * count) buffer ≡ bytes (passed (view s) reading .rows)
+  pub size : length buffer ≡ 1632
+
+-- the moments up to the reading, passed with none of the first events dropped: the mask of each at the end, how many rows there are, and their bytes at the front of the buffer
+pub record Passes (s : Schedule) (reading : ℕ) (buffer : List ℕ) (count : ℕ) (held : List ℕ) : Type 0 where
+  pub masks : length held ≡ 48
+  pub state : passed (view s) reading .state ≡ record { clock = reading; programs = s .programs; entries = keep (lasts reading) (masked (s .count) (s .entries) held) }
   pub rows : count ≡ length (passed (view s) reading .rows)
   pub written : take (17 * count) buffer ≡ bytes (passed (view s) reading .rows)
   pub size : length buffer ≡ 1632

@@ -10,7 +10,7 @@ use Rattle.rules.specs.Records.{idOf, noEntry, programAt}
 use Rattle.rules.specs.Holding.{endOf}
 use Rattle.calls.specs.Columns.{stoppedOf, beginsOf, controlsOf, primaciesOf, createdOf, idsOf}
 
--- what the clock call looks at of each held event
+-- what the clock call looks at of each held event, but for its mask, which changes
 pub record Columns : Type 0 where
   pub stopped : List Bool
   pub ends : List ℕ
@@ -19,11 +19,10 @@ pub record Columns : Type 0 where
   pub primacies : List ℕ
   pub created : List ℕ
   pub ids : List ℕ
-  pub held : List ℕ
 
--- the columns of slots; ends and held masks are worked out
-abbrev pub columnsOf : List Program → List (List ℕ) → List ℕ → List ℕ → Columns
-columnsOf ps w ends held =
+-- the columns of slots; ends are worked out
+abbrev pub columnsOf : List Program → List (List ℕ) → List ℕ → Columns
+columnsOf ps w ends =
     record {
       stopped = stoppedOf w;
       ends = ends;
@@ -32,7 +31,6 @@ columnsOf ps w ends held =
       primacies = primaciesOf ps w;
       created = createdOf w;
       ids = idsOf w;
-      held = held;
     }
 
 -- column by column, what the first n entries have
@@ -44,7 +42,6 @@ pub record Columned (ps : List Program) (hs : List Entry) (n : ℕ) (c : Columns
   pub primacies : (k : ℕ) → k < n → getD (c .primacies) k 0 ≡ programAt ps (getD hs k noEntry .event .program) .primacy
   pub created : (k : ℕ) → k < n → getD (c .created) k 0 ≡ getD hs k noEntry .event .created
   pub ids : (k : ℕ) → k < n → getD (c .ids) k 0 ≡ idOf (getD hs k noEntry .event)
-  pub held : (k : ℕ) → k < n → getD (c .held) k 0 ≡ getD hs k noEntry .held
 
 -- the columns that decide between events have 48 places
 pub record Long (c : Columns) : Type 0 where

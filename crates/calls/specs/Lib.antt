@@ -5,6 +5,7 @@ pub mod Best
 pub mod Found
 pub mod Columns
 pub mod Held
+pub mod Live
 pub mod Finished
 pub mod Advanced
 pub mod Settled

@@ -2,12 +2,14 @@
 ghost use mathlib.Core.Path.{_≡_};
 ghost use Prim.Native.Nat.{_≤_};
 ghost use lib.ListN.{length};
-ghost use Rattle.rules.specs.Records.{lastClock};
-ghost use Rattle.calls.specs.Slots.{Ready};
-ghost use Rattle.calls.specs.Advanced.{Advances};
+ghost use Rattle.rules.specs.Records.{mostEvents, lastClock};
+ghost use Rattle.calls.specs.Slots.{scheduleOf, Ready};
+ghost use Rattle.calls.specs.Live.{slotsAt, Placed};
+ghost use Rattle.calls.specs.Advanced.{Passes, Advances};
 use crate::clock;
 use crate::finish;
 use crate::held::Head;
+use crate::live;
 use crate::settle;
 
 pub(crate) struct Passed {
@@ -15,7 +17,43 @@ pub(crate) struct Passed {
     pub(crate) rows: usize,
 }
 
-// All moments up to a reading at which something begins or ends.
+// All moments up to a reading at which one of the events at the places begins or ends; `held` ends as the masks that they hold then. Returns how many rows there are.
+fn moments(
+    d: Head,
+    slots: &[[u64; 13]; 48],
+    places: &[u8; 48],
+    to: u64,
+    rows: &mut [u8; 1632],
+    held: &mut [u32; 48],
+) -> usize
+    requires { ⌜ (length (now slots) ≡ mostEvents) × Placed (d .count) (now places) × Ready d (slotsAt (now slots) (now places)) ⌝ }
+    requires { ⌜ (d .clock ≤ to) × (to ≤ lastClock) × (length (now rows) ≡ 1632) × (length (now held) ≡ 48) ⌝ }
+    ensures { λ r. ⌜ Passes (scheduleOf d (slotsAt (now (slots .entry)) (now (places .entry)))) to (now (rows .exit)) r (now (held .exit)) ⌝ }
+{
+    let n = d.count;
+    let programs = d.programs;
+    let mut ends = [0u64; 48];
+    clock::columns_of(slots, places, n, &mut ends, held);
+    let mut kept = [0u32; 48];
+    let mut codes = [0u8; 48];
+    let mut now = d.clock;
+    let mut at = 0;
+    loop {
+        let t = clock::next_moment(now, to + 1, slots, places, &ends, n);
+        if to < t {
+            break;
+        }
+        let shared = clock::claims_at(t, slots, places, &ends, held, n, &mut kept);
+        settle::settle(&mut kept, shared, programs, slots, places, n);
+        let given = clock::codes_at(t, slots, places, &ends, held, &kept, n, &mut codes);
+        at = clock::rows_at(rows, at, t, slots, places, &codes, n, given);
+        *held = kept;
+        now = t;
+    }
+    at
+}
+
+// A reading: the moments of the events that are live up to it, their masks back into the slots, and what has ended dropped.
 pub(crate) fn advance(
     mut d: Head,
     slots: &mut [[u64; 13]; 48],
@@ -27,27 +65,17 @@ pub(crate) fn advance(
     ensures { λ r. ⌜ Advances d (now (slots .entry)) to (now (rows .exit)) r (now (slots .exit)) ⌝ }
 {
     let n = d.count;
-    let programs = d.programs;
-    let mut ends = [0u64; 48];
+    let mut places = [0u8; 48];
+    let m = live::pick(d.clock, to, slots, n, &mut places);
+    let mut part = d;
+    part.count = m;
     let mut held = [0u32; 48];
-    clock::columns_of(slots, n, &mut ends, &mut held);
-    let mut kept = [0u32; 48];
-    let mut codes = [0u8; 48];
-    let mut now = d.clock;
-    let mut at = 0;
-    loop {
-        let t = clock::next_moment(now, to + 1, slots, &ends, n);
-        if to < t {
-            break;
-        }
-        let shared = clock::claims_at(t, slots, &ends, &held, n, &mut kept);
-        settle::settle(&mut kept, shared, programs, slots, n);
-        let given = clock::codes_at(t, slots, &ends, &held, &kept, n, &mut codes);
-        at = clock::rows_at(rows, at, t, slots, &codes, n, given);
-        held = kept;
-        now = t;
-    }
-    d.count = finish::finish(slots, n, to, &ends, &held);
+    let count = moments(part, slots, &places, to, rows, &mut held);
+    live::give_back(slots, &places, m, &held);
+    d.count = finish::finish(slots, n, to);
     d.clock = to;
-    Passed { head: d, rows: at }
+    Passed {
+        head: d,
+        rows: count,
+    }
 }

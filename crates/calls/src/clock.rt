@@ -8,23 +8,25 @@ ghost use lib.ListN.{length, getD};
 ghost use Rattle.rules.specs.Records.{mostEvents, has};
 ghost use Rattle.rules.specs.Bytes.{big};
 ghost use Rattle.calls.specs.Columns.{stoppedOf, beginsOf, controlsOf, idsOf, claimOf, codeOf, Dated, Claims, Codes, Gives, nearest, nextOf, rowIf, codedRows, momentRows, Put, Written};
+ghost use Rattle.calls.specs.Live.{slotsAt, Placed};
 ghost use Rattle.calls.specs.Settled.{Contested};
 use crate::held;
 use crate::settle;
 
-// The effective end and the held mask of each of the first n events.
+// The effective end and the held mask of each of the events at the first n places.
 pub(crate) fn columns_of(
     slots: &[[u64; 13]; 48],
+    places: &[u8; 48],
     n: usize,
     ends: &mut [u64; 48],
     held: &mut [u32; 48],
 )
-    requires { ⌜ (n ≤ 48) × (length (now ends) ≡ 48) × (length (now held) ≡ 48) ⌝ }
-    ensures { λ _. ⌜ Dated n (now (slots .entry)) (now (ends .exit)) (now (held .exit)) ⌝ }
+    requires { ⌜ (n ≤ 48) × (length (now slots) ≡ 48) × Placed n (now places) × (length (now ends) ≡ 48) × (length (now held) ≡ 48) ⌝ }
+    ensures { λ _. ⌜ Dated n (slotsAt (now (slots .entry)) (now (places .entry))) (now (ends .exit)) (now (held .exit)) ⌝ }
 {
     let mut i = 0;
     while i < n {
-        let slot = slots[i];
+        let slot = slots[places[i] as usize];
         let h = held::entry_of(slot);
         let e = h.event;
         let end = e.effective_end();
@@ -106,24 +108,29 @@ fn sooner(a: u64, b: u64) -> u64
     a
 }
 
-// The next moment at which one of the first n begins or ends, `limit` if there is none before it. Each event's own is found first, so that no event waits for the
+// The next moment at which one of those at the first n places begins or ends, `limit` if there is none before it. Each event's own is found first, so that no event waits for the
 // one before it.
 pub(crate) fn next_moment(
     clock: u64,
     limit: u64,
     slots: &[[u64; 13]; 48],
+    places: &[u8; 48],
     ends: &[u64; 48],
     n: usize,
 ) -> u64
-    requires { ⌜ (n ≤ 48) × (length (now slots) ≡ 48) ⌝ }
-    ensures { λ r. ⌜ r ≡ nextOf clock limit n (beginsOf (now (slots .entry))) (now (ends .entry)) ⌝ }
+    requires { ⌜ (n ≤ 48) × (length (now slots) ≡ 48) × Placed n (now places) ⌝ }
+    ensures { λ r. ⌜ r ≡ nextOf clock limit n (beginsOf (slotsAt (now (slots .entry)) (now (places .entry)))) (now (ends .entry)) ⌝ }
 {
     let mut t = limit;
     let mut i = 0;
     while i < n {
         t = sooner(
             t,
-            nearer(clock, slots[i][10], nearer(clock, ends[i], limit)),
+            nearer(
+                clock,
+                slots[places[i] as usize][10],
+                nearer(clock, ends[i], limit),
+            ),
         );
         i += 1;
     }
@@ -131,37 +138,38 @@ pub(crate) fn next_moment(
 }
 
 // What the event in a slot claims at moment t.
-fn claim_at(t: u64, slots: &[[u64; 13]; 48], ends: &[u64; 48], held: &[u32; 48], i: usize) -> u32
+fn claim_at(t: u64, slots: &[[u64; 13]; 48], i: usize, end: u64, held: u32) -> u32
     requires { ⌜ (i < 48) × (length (now slots) ≡ 48) ⌝ }
-    ensures { λ r. ⌜ r ≡ claimOf t (getD (stoppedOf (now (slots .entry))) i false) (getD (now (ends .entry)) i 0) (getD (beginsOf (now (slots .entry))) i 0) (getD (controlsOf (now (slots .entry))) i 0) (getD (now (held .entry)) i 0) ⌝ }
+    ensures { λ r. ⌜ r ≡ claimOf t (getD (stoppedOf (now (slots .entry))) i false) end (getD (beginsOf (now (slots .entry))) i 0) (getD (controlsOf (now (slots .entry))) i 0) held ⌝ }
 {
     claim_of(
         t,
         slots[i][12] == 1,
-        ends[i],
+        end,
         slots[i][10],
         (slots[i][2] % 0x1_0000_0000) as u32,
-        held[i],
+        held,
     )
 }
 
-// What each of the first n claims at moment t; the controls that two or more of them claim.
+// What each of those at the first n places claims at moment t; the controls that two or more of them claim.
 pub(crate) fn claims_at(
     t: u64,
     slots: &[[u64; 13]; 48],
+    places: &[u8; 48],
     ends: &[u64; 48],
     held: &[u32; 48],
     n: usize,
     claims: &mut [u32; 48],
 ) -> u32
-    requires { ⌜ (n ≤ 48) × (length (now slots) ≡ 48) × (length (now claims) ≡ 48) ⌝ }
-    ensures { λ r. ⌜ Claims t n (stoppedOf (now (slots .entry))) (now (ends .entry)) (beginsOf (now (slots .entry))) (controlsOf (now (slots .entry))) (now (held .entry)) (now (claims .exit)) × Contested (now (claims .exit)) n r ⌝ }
+    requires { ⌜ (n ≤ 48) × (length (now slots) ≡ 48) × Placed n (now places) × (length (now claims) ≡ 48) ⌝ }
+    ensures { λ r. ⌜ Claims t n (stoppedOf (slotsAt (now (slots .entry)) (now (places .entry)))) (now (ends .entry)) (beginsOf (slotsAt (now (slots .entry)) (now (places .entry)))) (controlsOf (slotsAt (now (slots .entry)) (now (places .entry)))) (now (held .entry)) (now (claims .exit)) × Contested (now (claims .exit)) n r ⌝ }
 {
     let mut seen = 0;
     let mut twice = 0;
     let mut i = 0;
     while i < n {
-        let m = claim_at(t, slots, ends, held, i);
+        let m = claim_at(t, slots, places[i] as usize, ends[i], held[i]);
         claims[i] = m;
         twice |= seen & m;
         seen |= m;
@@ -171,44 +179,31 @@ pub(crate) fn claims_at(
 }
 
 // The code that the event in a slot gives at moment t.
-fn code_at(
-    t: u64,
-    slots: &[[u64; 13]; 48],
-    ends: &[u64; 48],
-    held: &[u32; 48],
-    kept: &[u32; 48],
-    i: usize,
-) -> u8
+fn code_at(t: u64, slots: &[[u64; 13]; 48], i: usize, end: u64, held: u32, kept: u32) -> u8
     requires { ⌜ (i < 48) × (length (now slots) ≡ 48) ⌝ }
-    ensures { λ r. ⌜ (r ≡ codeOf t (getD (stoppedOf (now (slots .entry))) i false) (getD (now (ends .entry)) i 0) (getD (beginsOf (now (slots .entry))) i 0) (getD (now (held .entry)) i 0) (getD (now (kept .entry)) i 0)) × (r < 32) ⌝ }
+    ensures { λ r. ⌜ (r ≡ codeOf t (getD (stoppedOf (now (slots .entry))) i false) end (getD (beginsOf (now (slots .entry))) i 0) held kept) × (r < 32) ⌝ }
 {
-    code_of(
-        t,
-        slots[i][12] == 1,
-        ends[i],
-        slots[i][10],
-        held[i],
-        kept[i],
-    )
+    code_of(t, slots[i][12] == 1, end, slots[i][10], held, kept)
 }
 
-// The code that each of the first n gives at moment t; the set of the codes given.
+// The code that each of those at the first n places gives at moment t; the set of the codes given.
 pub(crate) fn codes_at(
     t: u64,
     slots: &[[u64; 13]; 48],
+    places: &[u8; 48],
     ends: &[u64; 48],
     held: &[u32; 48],
     kept: &[u32; 48],
     n: usize,
     codes: &mut [u8; 48],
 ) -> u32
-    requires { ⌜ (n ≤ 48) × (length (now slots) ≡ 48) × (length (now codes) ≡ 48) ⌝ }
-    ensures { λ r. ⌜ Codes t n (stoppedOf (now (slots .entry))) (now (ends .entry)) (beginsOf (now (slots .entry))) (now (held .entry)) (now (kept .entry)) (now (codes .exit)) × Gives n (now (codes .exit)) r ⌝ }
+    requires { ⌜ (n ≤ 48) × (length (now slots) ≡ 48) × Placed n (now places) × (length (now codes) ≡ 48) ⌝ }
+    ensures { λ r. ⌜ Codes t n (stoppedOf (slotsAt (now (slots .entry)) (now (places .entry)))) (now (ends .entry)) (beginsOf (slotsAt (now (slots .entry)) (now (places .entry)))) (now (held .entry)) (now (kept .entry)) (now (codes .exit)) × Gives n (now (codes .exit)) r ⌝ }
 {
     let mut given = 0;
     let mut i = 0;
     while i < n {
-        let k = code_at(t, slots, ends, held, kept, i);
+        let k = code_at(t, slots, places[i] as usize, ends[i], held[i], kept[i]);
         codes[i] = k;
         given |= 1 << (k as u32);
         i += 1;
@@ -254,24 +249,25 @@ pub(crate) fn add_row(rows: &mut [u8; 1632], at: usize, t: u64, id: u64, code: u
     at
 }
 
-// The rows of those of the first n that give the code k.
+// The rows of those at the first n places that give the code k.
 pub(crate) fn rows_with(
     rows: &mut [u8; 1632],
     from: usize,
     t: u64,
     slots: &[[u64; 13]; 48],
+    places: &[u8; 48],
     codes: &[u8; 48],
     n: usize,
     k: u8,
 ) -> usize
-    requires { ⌜ (n ≤ 48) × (length (now rows) ≡ 1632) × (length (now slots) ≡ 48) ⌝ }
-    requires { ⌜ from + length (codedRows t k n (idsOf (now slots)) (now codes)) ≤ 96 ⌝ }
-    ensures { λ r. ⌜ Written (now (rows .entry)) from (now (rows .exit)) r (codedRows t k n (idsOf (now (slots .entry))) (now (codes .entry))) ⌝ }
+    requires { ⌜ (n ≤ 48) × (length (now rows) ≡ 1632) × (length (now slots) ≡ 48) × Placed n (now places) ⌝ }
+    requires { ⌜ from + length (codedRows t k n (idsOf (slotsAt (now slots) (now places))) (now codes)) ≤ 96 ⌝ }
+    ensures { λ r. ⌜ Written (now (rows .entry)) from (now (rows .exit)) r (codedRows t k n (idsOf (slotsAt (now (slots .entry)) (now (places .entry)))) (now (codes .entry))) ⌝ }
 {
     let mut at = from;
     let mut i = 0;
     while i < n {
-        at = add_row(rows, at, t, slots[i][0], codes[i], k);
+        at = add_row(rows, at, t, slots[places[i] as usize][0], codes[i], k);
         i += 1;
     }
     at
@@ -283,17 +279,18 @@ fn rows_if(
     from: usize,
     t: u64,
     slots: &[[u64; 13]; 48],
+    places: &[u8; 48],
     codes: &[u8; 48],
     n: usize,
     k: u8,
     given: u32,
 ) -> usize
-    requires { ⌜ (n ≤ 48) × (length (now rows) ≡ 1632) × (length (now slots) ≡ 48) × (k < 32) × Gives n (now codes) given ⌝ }
-    requires { ⌜ from + length (codedRows t k n (idsOf (now slots)) (now codes)) ≤ 96 ⌝ }
-    ensures { λ r. ⌜ Written (now (rows .entry)) from (now (rows .exit)) r (codedRows t k n (idsOf (now (slots .entry))) (now (codes .entry))) ⌝ }
+    requires { ⌜ (n ≤ 48) × (length (now rows) ≡ 1632) × (length (now slots) ≡ 48) × Placed n (now places) × (k < 32) × Gives n (now codes) given ⌝ }
+    requires { ⌜ from + length (codedRows t k n (idsOf (slotsAt (now slots) (now places))) (now codes)) ≤ 96 ⌝ }
+    ensures { λ r. ⌜ Written (now (rows .entry)) from (now (rows .exit)) r (codedRows t k n (idsOf (slotsAt (now (slots .entry)) (now (places .entry)))) (now (codes .entry))) ⌝ }
 {
     if settle::is_in(given, k as u32) {
-        return rows_with(rows, from, t, slots, codes, n, k);
+        return rows_with(rows, from, t, slots, places, codes, n, k);
     }
     from
 }
@@ -304,15 +301,16 @@ pub(crate) fn rows_at(
     from: usize,
     t: u64,
     slots: &[[u64; 13]; 48],
+    places: &[u8; 48],
     codes: &[u8; 48],
     n: usize,
     given: u32,
 ) -> usize
-    requires { ⌜ (n ≤ 48) × (length (now rows) ≡ 1632) × (length (now slots) ≡ 48) × Gives n (now codes) given ⌝ }
-    requires { ⌜ from + length (momentRows t n (idsOf (now slots)) (now codes)) ≤ 96 ⌝ }
-    ensures { λ r. ⌜ Written (now (rows .entry)) from (now (rows .exit)) r (momentRows t n (idsOf (now (slots .entry))) (now (codes .entry))) ⌝ }
+    requires { ⌜ (n ≤ 48) × (length (now rows) ≡ 1632) × (length (now slots) ≡ 48) × Placed n (now places) × Gives n (now codes) given ⌝ }
+    requires { ⌜ from + length (momentRows t n (idsOf (slotsAt (now slots) (now places))) (now codes)) ≤ 96 ⌝ }
+    ensures { λ r. ⌜ Written (now (rows .entry)) from (now (rows .exit)) r (momentRows t n (idsOf (slotsAt (now (slots .entry)) (now (places .entry)))) (now (codes .entry))) ⌝ }
 {
-    let a = rows_if(rows, from, t, slots, codes, n, 3, given);
-    let b = rows_if(rows, a, t, slots, codes, n, 7, given);
-    rows_if(rows, b, t, slots, codes, n, 2, given)
+    let a = rows_if(rows, from, t, slots, places, codes, n, 3, given);
+    let b = rows_if(rows, a, t, slots, places, codes, n, 7, given);
+    rows_if(rows, b, t, slots, places, codes, n, 2, given)
 }

@@ -16,6 +16,7 @@ mod events;
 mod finish;
 mod held;
 mod lines;
+mod live;
 mod programs;
 mod reading;
 mod settle;

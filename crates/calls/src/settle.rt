@@ -9,6 +9,7 @@ ghost use Rattle.rules.specs.Holding.{better, rankOf};
 ghost use Rattle.calls.specs.Slots.{entryOf};
 ghost use Rattle.calls.specs.Columns.{primaciesOf, createdOf, idsOf, Numbered};
 ghost use Rattle.calls.specs.Settled.{claimants, settled, rankAt, betterAt, Contested, Decided};
+ghost use Rattle.calls.specs.Live.{slotsAt, Placed};
 use rules::Program;
 
 // Of two events the better.
@@ -74,13 +75,20 @@ fn take_away(masks: &mut [u32; 48], i: usize, c: u32)
 }
 
 // Leaves control c to the best of those that claim it.
-fn decide(masks: &mut [u32; 48], programs: [Program; 8], slots: &[[u64; 13]; 48], n: usize, c: u32)
+fn decide(
+    masks: &mut [u32; 48],
+    programs: [Program; 8],
+    slots: &[[u64; 13]; 48],
+    places: &[u8; 48],
+    n: usize,
+    c: u32,
+)
     requires { ⌜ n ≤ 48 ⌝ }
     requires { ⌜ c < 32 ⌝ }
-    requires { ⌜ length (now slots) ≡ 48 ⌝ }
-    requires { ⌜ Pairwise _<_ (take n (idsOf (now slots))) ⌝ }
-    requires { ⌜ Numbered n (now slots) ⌝ }
-    ensures { λ _. ⌜ Decided (rankAt (primaciesOf programs (now (slots .entry))) (createdOf (now (slots .entry))) (idsOf (now (slots .entry)))) n c (now (masks .entry)) (now (masks .exit)) ⌝ }
+    requires { ⌜ (length (now slots) ≡ 48) × Placed n (now places) ⌝ }
+    requires { ⌜ Pairwise _<_ (take n (idsOf (slotsAt (now slots) (now places)))) ⌝ }
+    requires { ⌜ Numbered n (slotsAt (now slots) (now places)) ⌝ }
+    ensures { λ _. ⌜ Decided (rankAt (primaciesOf programs (slotsAt (now (slots .entry)) (now (places .entry)))) (createdOf (slotsAt (now (slots .entry)) (now (places .entry)))) (idsOf (slotsAt (now (slots .entry)) (now (places .entry))))) n c (now (masks .entry)) (now (masks .exit)) ⌝ }
 {
     let mut best = n;
     let mut i = 0;
@@ -88,7 +96,7 @@ fn decide(masks: &mut [u32; 48], programs: [Program; 8], slots: &[[u64; 13]; 48]
         if is_in(masks[i], c) {
             if best == n {
                 best = i;
-            } else if is_ahead(programs, slots, i, best) {
+            } else if is_ahead(programs, slots, places[i] as usize, places[best] as usize) {
                 take_away(masks, best, c);
                 best = i;
             } else {
@@ -105,15 +113,16 @@ pub(crate) fn settle(
     shared: u32,
     programs: [Program; 8],
     slots: &[[u64; 13]; 48],
+    places: &[u8; 48],
     n: usize,
 )
     requires { ⌜ n ≤ 48 ⌝ }
     requires { ⌜ length (now masks) ≡ 48 ⌝ }
     requires { ⌜ Contested (now masks) n shared ⌝ }
-    requires { ⌜ length (now slots) ≡ 48 ⌝ }
-    requires { ⌜ Pairwise _<_ (take n (idsOf (now slots))) ⌝ }
-    requires { ⌜ Numbered n (now slots) ⌝ }
-    ensures { λ _. ⌜ (length (now (masks .exit)) ≡ 48) × (take n (now (masks .exit)) ≡ settled (claimants (take n (now (masks .entry))) (take n (primaciesOf programs (now (slots .entry)))) (take n (createdOf (now (slots .entry)))) (take n (idsOf (now (slots .entry)))))) ⌝ }
+    requires { ⌜ (length (now slots) ≡ 48) × Placed n (now places) ⌝ }
+    requires { ⌜ Pairwise _<_ (take n (idsOf (slotsAt (now slots) (now places)))) ⌝ }
+    requires { ⌜ Numbered n (slotsAt (now slots) (now places)) ⌝ }
+    ensures { λ _. ⌜ (length (now (masks .exit)) ≡ 48) × (take n (now (masks .exit)) ≡ settled (claimants (take n (now (masks .entry))) (take n (primaciesOf programs (slotsAt (now (slots .entry)) (now (places .entry))))) (take n (createdOf (slotsAt (now (slots .entry)) (now (places .entry))))) (take n (idsOf (slotsAt (now (slots .entry)) (now (places .entry))))))) ⌝ }
 {
     if shared == 0 {
         return;
@@ -121,7 +130,7 @@ pub(crate) fn settle(
     let mut c: u32 = 0;
     while c < 32 {
         if is_in(shared, c) {
-            decide(masks, programs, slots, n, c);
+            decide(masks, programs, slots, places, n, c);
         }
         c += 1;
     }

@@ -24,7 +24,7 @@ small t stopped end begins held kept =
 
 returns : tie.Need-returns
 returns c =
-    let b = c .before .before .before .before .before .before in
+    let b = c .before .before .before in
     let w = b .args .slots .now in
     let l : b .args .i < length w = omega (arith, b .pre) in
     (rw (stopped-at w (b .args .i) l, begins-at w (b .args .i) l) (c .code-of .ensures), rw (c .code-of .ensures) (small _ _ _ _ _ _))
@@ -33,12 +33,6 @@ pub code-at-spec : {M : Type 1} → statement M
 code-at-spec =
     tie.close
     (tie.spec
-    (λ c. search needs)
-    (λ c. search needs)
-    (λ c. search needs)
-    (λ c. search needs)
-    (λ c. search needs)
-    (λ c. search needs)
     (λ c. search needs)
     (λ c. search needs)
     (λ c. search needs)

@@ -9,36 +9,43 @@ use borrow.Author.Count.{below-none}
 use lib.ListN.{length, getD, length-set}
 use lib.Pow.{shl-exact}
 use Rattle.calls.specs.Columns.{stoppedOf, beginsOf, codeOf, Gives}
+use Rattle.calls.specs.Live.{slotsAt}
+use Rattle.calls.proofs.AtPlaces.{stopped-there, begins-there}
 use Rattle.calls.proofs.Fill.{fill-more}
 use Rattle.calls.proofs.Controls.{gives-more}
 use Rattle.calls.proofs.clock.codes_at.Statement.{statement}
 use Rattle.calls.proofs.clock.codes_at.Tie as tie
 
 abbrev Inv-loop : tie.InvT-loop
-Inv-loop t slots ends held kept n codes₀ given₀ i₀ codes given i =
-    (i ≤ n) × (n ≤ 48) × (length codes ≡ 48) × ((k : ℕ) → k < i → getD codes k 0 ≡ codeOf t (getD (stoppedOf slots) k false) (getD ends k 0) (getD (beginsOf slots) k 0) (getD held k 0) (getD kept k 0))
+Inv-loop t slots places ends held kept n codes₀ given₀ i₀ codes given i =
+    (i ≤ n) × (n ≤ 48) × (length codes ≡ 48) × ((k : ℕ) → k < i → getD codes k 0 ≡ codeOf t (getD (stoppedOf (slotsAt slots places)) k false) (getD ends k 0) (getD (beginsOf (slotsAt slots places)) k 0) (getD held k 0) (getD kept k 0))
     × Gives i codes given
 
 abbrev μ-loop : tie.MeasureT-loop
-μ-loop t slots ends held kept n codes₀ given₀ i₀ codes given i = n - i
+μ-loop t slots places ends held kept n codes₀ given₀ i₀ codes given i = n - i
 
 loop-holds : tie.Need-loop-holds Inv-loop μ-loop
-loop-holds c = (omega arith, c .pre .0, c .pre .2, below-none _, below-none _)
+loop-holds c = (omega arith, c .pre .0, c .pre .3, below-none _, below-none _)
 
 code-at-requires : tie.Need-code-at-requires Inv-loop μ-loop
-code-at-requires c κs = (omega (arith, c .before .loop .inv .1), c .before .before .pre .1)
+code-at-requires c κs = let p = c .before .before .before .before .before .before .pre in (p .2 .within _ (c .before .before .before .before .loop-test .taken), p .1)
 
 loop-again : tie.Need-loop-again Inv-loop μ-loop
 loop-again c =
-    let l = c .before .before .loop in
-    let a = c .before .before .before .args in
-    let w = a .slots .now in
+    let l = c .before .before .before .before .before .before .loop in
+    let a = c .before .before .before .before .before .before .before .args in
+    let p = c .before .before .before .before .before .before .before .pre in
+    let s = a .slots .now in
+    let w = slotsAt s (a .places .now) in
     let k = c .code-at .result in
-    let h : l .i < length (l .codes) = omega (arith, l .inv .1, l .inv .2) in (
+    let h : l .i < length (l .codes) = omega (arith, l .inv .1, l .inv .2) in
+    let j : l .i < length (a .places .now) = omega (arith, l .inv .1, p .2 .long) in
+    let q : getD (a .places .now) (l .i) 0 < length s = omega (arith, p .1, p .2 .within (l .i) (c .before .before .before .before .before .loop-test .taken)) in (
       omega arith,
       l .inv .1,
       length-set (l .codes) (l .i) k ∙ l .inv .2,
-      fill-more 0 (λ k. codeOf (a .t) (getD (stoppedOf w) k false) (getD (a .ends .now) k 0) (getD (beginsOf w) k 0) (getD (a .held .now) k 0) (getD (a .kept .now) k 0)) (l .codes) (l .i) k h (c .code-at .ensures .0) (l .inv .3),
+      fill-more 0 (λ k. codeOf (a .t) (getD (stoppedOf w) k false) (getD (a .ends .now) k 0) (getD (beginsOf w) k 0) (getD (a .held .now) k 0) (getD (a .kept .now) k 0)) (l .codes) (l .i) k h
+          (rw (stopped-there s (a .places .now) (l .i) j q, begins-there s (a .places .now) (l .i) j q) (c .code-at .ensures .0)) (l .inv .3),
       rw (shl-exact {a = 1} 1 k 32 (omega arith) (omega (arith, c .code-at .ensures .1)), one-mul) (gives-more (l .codes) (l .i) k h (l .given) (l .inv .4)),
     )
 
@@ -55,6 +62,14 @@ codes-at-spec =
     Inv-loop
     μ-loop
     loop-holds
+    (λ c. search needs)
+    (λ c. record { fits = omega (arith, c .before .before .before .pre .2 .within (c .before .before .loop .i) (c .before .loop-test .taken)) })
+    (λ c. search needs)
+    (λ c. search needs)
+    (λ c. search needs)
+    (λ c. search needs)
+    (λ c. search needs)
+    (λ c. search needs)
     code-at-requires
     (λ c. search needs)
     (λ c. search needs)

@@ -1,26 +1,28 @@
--- The loop has filled the two columns for the first i slots.
-use mathlib.Core.Path.{_≡_, ap, _∙_}
+-- The loop has filled the two columns for the first i places.
+use mathlib.Core.Path.{_≡_, sym, ap, _∙_}
 use Prim.Native.Nat.{_-_, _≤_}
 use mathlib.Core.List.{[]}
 use native.Mathlib.Omega.{arith}
 use borrow.Author.Needs.{needs}
 use borrow.Author.Count.{below-none}
-use lib.ListN.{getD, length-set}
+use lib.ListN.{length, getD, length-set}
 use Rattle.rules.specs.Holding.{endOf}
 use Rattle.calls.specs.Slots.{entryOf}
 use Rattle.calls.specs.Columns.{Dated}
+use Rattle.calls.specs.Live.{slotsAt, Placed}
+use Rattle.calls.proofs.AtPlaces.{slot-there}
 use Rattle.calls.proofs.Fill.{fill-more}
 use Rattle.calls.proofs.clock.columns_of.Statement.{statement}
 use Rattle.calls.proofs.clock.columns_of.Tie as tie
 
 abbrev Inv-loop : tie.InvT-loop
-Inv-loop slots n ends₀ held₀ i₀ ends held i = (i ≤ n) × (n ≤ 48) × Dated i slots ends held
+Inv-loop slots places n ends₀ held₀ i₀ ends held i = (i ≤ n) × (n ≤ 48) × (length slots ≡ 48) × Placed n places × Dated i (slotsAt slots places) ends held
 
 abbrev μ-loop : tie.MeasureT-loop
-μ-loop slots n ends₀ held₀ i₀ ends held i = n - i
+μ-loop slots places n ends₀ held₀ i₀ ends held i = n - i
 
 loop-holds : tie.Need-loop-holds Inv-loop μ-loop
-loop-holds c = (omega arith, c .pre .0, record { long = (c .pre .1, c .pre .2); dated = below-none _; masks = below-none _ })
+loop-holds c = (omega arith, c .pre .0, c .pre .1, c .pre .2, record { long = (c .pre .3, c .pre .4); dated = below-none _; masks = below-none _ })
 
 entry-of-requires : tie.Need-entry-of-requires Inv-loop μ-loop
 entry-of-requires c κs = search needs
@@ -30,12 +32,16 @@ effective-end-requires c κs = search needs
 
 loop-again : tie.Need-loop-again Inv-loop μ-loop
 loop-again c =
-    let l = c .before .before .before .before .before .loop in
-    let w = c .before .before .before .before .before .before .args .slots .now in
-    let d = l .inv .2 in
-    let entry = c .before .before .entry-of .ensures in (
+    let l = c .before .before .before .before .before .before .loop in
+    let a = c .before .before .before .before .before .before .before .args in
+    let w = slotsAt (a .slots .now) (a .places .now) in
+    let d = l .inv .4 in
+    let there : getD w (l .i) [] ≡ getD (a .slots .now) (getD (a .places .now) (l .i) 0) [] = slot-there (a .slots .now) (a .places .now) (l .i) (omega (arith, l .inv .1, l .inv .3 .long)) in
+    let entry = c .before .before .entry-of .ensures ∙ ap entryOf (sym there) in (
       omega arith,
       l .inv .1,
+      l .inv .2,
+      l .inv .3,
       record {
         long = (length-set (l .ends) (l .i) _ ∙ d .long .0, length-set (l .held) (l .i) _ ∙ d .long .1);
         dated = fill-more 0 (λ k. endOf (entryOf (getD w k []))) (l .ends) (l .i) _ (omega (arith, l .inv .1, d .long .0)) (ap (λ x. x .time) (c .effective-end .ensures) ∙ ap endOf entry) (d .dated);
@@ -45,7 +51,7 @@ loop-again c =
 
 returns : tie.Need-returns Inv-loop μ-loop
 returns c =
-    let d = c .before .loop .inv .2 in
+    let d = c .before .loop .inv .4 in
     let z : c .before .loop .i ≡ c .before .before .args .n = omega arith in
     record { long = d .long; dated = λ k l. d .dated k (omega arith); masks = λ k l. d .masks k (omega arith) }
 
@@ -57,7 +63,9 @@ columns-of-spec =
     μ-loop
     loop-holds
     (λ c. search needs)
-    (λ c. search needs)
+    (λ c. record { fits = omega (arith, c .before .before .loop .inv .3 .within (c .before .before .loop .i) (c .before .loop-test .taken)) })
+    (λ c. record { fits = omega (arith, c .before .before .loop .inv .3 .within (c .before .before .loop .i) (c .before .loop-test .taken)) })
+    (λ c. omega (arith, c .before .before .loop .inv .2, c .before .before .loop .inv .3 .within (c .before .before .loop .i) (c .before .loop-test .taken)))
     entry-of-requires
     effective-end-requires
     (λ c. search needs)

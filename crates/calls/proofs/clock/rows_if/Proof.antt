@@ -9,7 +9,7 @@ returns-2 : tie.Need-returns-2
 returns-2 c =
     let b = c .before .before in
     let a = b .args in
-    rw (coded-none (a .t) (a .k) _ (a .codes .now) (a .n) (a .given) (b .pre .0 .4) (sym (c .before .is-in .ensures) ∙ c .if1 .left)) (no-row (a .rows .now) (a .from))
+    rw (coded-none (a .t) (a .k) _ (a .codes .now) (a .n) (a .given) (b .pre .0 .5) (sym (c .before .is-in .ensures) ∙ c .if1 .left)) (no-row (a .rows .now) (a .from))
 
 pub rows-if-spec : {M : Type 1} → statement M
 rows-if-spec =

@@ -1,19 +1,22 @@
 -- The loop has written the rows of the first i.
 use mathlib.Core.Path.{_≡_, _∙_, subst}
-use Prim.Native.Nat.{_-_, _≤_}
+use Prim.Native.Nat.{_-_, _<_, _≤_}
 use native.Mathlib.Omega.{arith}
 use borrow.Author.Needs.{needs}
+use lib.ListN.{length}
 use Rattle.calls.specs.Columns.{idsOf, codedRows, Written}
+use Rattle.calls.specs.Live.{slotsAt}
 use Rattle.calls.proofs.Columned.{id-at}
+use Rattle.calls.proofs.AtPlaces.{as-many, slot-there}
 use Rattle.calls.proofs.Puts.{no-row, coded-fits, coded-next}
 use Rattle.calls.proofs.clock.rows_with.Statement.{statement}
 use Rattle.calls.proofs.clock.rows_with.Tie as tie
 
 abbrev Inv-loop : tie.InvT-loop
-Inv-loop rows₀ from t slots codes n k at₀ i₀ rows at i = (i ≤ n) × (n ≤ 48) × Written rows₀ from rows at (codedRows t k i (idsOf slots) codes)
+Inv-loop rows₀ from t slots places codes n k at₀ i₀ rows at i = (i ≤ n) × (n ≤ 48) × Written rows₀ from rows at (codedRows t k i (idsOf (slotsAt slots places)) codes)
 
 abbrev μ-loop : tie.MeasureT-loop
-μ-loop rows₀ from t slots codes n k at₀ i₀ rows at i = n - i
+μ-loop rows₀ from t slots places codes n k at₀ i₀ rows at i = n - i
 
 loop-holds : tie.Need-loop-holds Inv-loop μ-loop
 unfolding codedRows
@@ -21,26 +24,30 @@ loop-holds c = (omega arith, c .pre .0 .0, no-row (c .args .rows .now) (c .args 
 
 add-row-requires : tie.Need-add-row-requires Inv-loop μ-loop
 add-row-requires c κs =
-    let l = c .before .before .before .before .loop in
-    let d = c .before .before .before .before .before in
-    let a = d .args in
-    let w = a .slots .now in
-    (l .inv .2 .size ∙ d .pre .0 .1, rw (id-at w (l .i) (omega (arith, d .pre))) at (coded-fits (a .t) (a .k) (idsOf w) (a .codes .now) (a .from) (l .at) (l .i) (a .n) (omega arith) (l .inv .2 .count) (d .pre .1)))
-
-loop-again : tie.Need-loop-again Inv-loop μ-loop
-loop-again c =
     let l = c .before .before .before .before .before .loop in
     let d = c .before .before .before .before .before .before in
     let a = d .args in
-    let w = a .slots .now in
-    (omega arith, l .inv .1, coded-next (a .t) (a .k) (idsOf w) (a .codes .now) (l .i) (l .inv .2) (rw (id-at w (l .i) (omega (arith, d .pre))) (c .add-row .ensures)))
+    let s = a .slots .now in
+    let w = slotsAt s (a .places .now) in
+    let j : l .i < length (a .places .now) = omega (arith, l .inv .1, d .pre .0 .3 .long) in
+    (l .inv .2 .size ∙ d .pre .0 .1, rw (id-at w (l .i) (omega (arith, as-many s (a .places .now))), slot-there s (a .places .now) (l .i) j) at (coded-fits (a .t) (a .k) (idsOf w) (a .codes .now) (a .from) (l .at) (l .i) (a .n) (omega arith) (l .inv .2 .count) (d .pre .1)))
+
+loop-again : tie.Need-loop-again Inv-loop μ-loop
+loop-again c =
+    let l = c .before .before .before .before .before .before .loop in
+    let d = c .before .before .before .before .before .before .before in
+    let a = d .args in
+    let s = a .slots .now in
+    let w = slotsAt s (a .places .now) in
+    let j : l .i < length (a .places .now) = omega (arith, l .inv .1, d .pre .0 .3 .long) in
+    (omega arith, l .inv .1, coded-next (a .t) (a .k) (idsOf w) (a .codes .now) (l .i) (l .inv .2) (rw (id-at w (l .i) (omega (arith, as-many s (a .places .now))), slot-there s (a .places .now) (l .i) j) (c .add-row .ensures)))
 
 returns : tie.Need-returns Inv-loop μ-loop
 returns c =
     let l = c .before .loop in
     let a = c .before .before .args in
     let z : l .i ≡ a .n = omega arith in
-    subst (λ m. Written (a .rows .now) (a .from) (l .rows) (l .at) (codedRows (a .t) (a .k) m (idsOf (a .slots .now)) (a .codes .now))) z (l .inv .2)
+    subst (λ m. Written (a .rows .now) (a .from) (l .rows) (l .at) (codedRows (a .t) (a .k) m (idsOf (slotsAt (a .slots .now) (a .places .now))) (a .codes .now))) z (l .inv .2)
 
 pub rows-with-spec : {M : Type 1} → statement M
 rows-with-spec =
@@ -50,7 +57,9 @@ rows-with-spec =
     μ-loop
     loop-holds
     (λ c. search needs)
-    (λ c. search needs)
+    (λ c. record { fits = omega (arith, c .before .before .before .before .pre .0 .3 .within (c .before .before .before .loop .i) (c .before .before .loop-test .taken)) })
+    (λ c. record { fits = omega (arith, c .before .before .before .before .pre .0 .3 .within (c .before .before .before .loop .i) (c .before .before .loop-test .taken)) })
+    (λ c. omega (arith, c .before .before .before .before .pre .0 .3 .within (c .before .before .before .loop .i) (c .before .before .loop-test .taken)))
     (λ c. search needs)
     (λ c. search needs)
     add-row-requires

@@ -1,45 +1,45 @@
 -- The loop has looked at the first i slots.
-use mathlib.Core.Path.{_≡_, subst}
+use mathlib.Core.Path.{_≡_, ap, _∙_}
 use mathlib.Core.Logic.{⊎-elim}
 use Prim.Native.Nat.{_-_, _≤_}
 use native.Mathlib.Omega.{arith}
 use borrow.Author.Needs.{needs}
-use lib.ListN.{length}
-use Rattle.rules.specs.Records.{mostEvents}
-use Rattle.calls.proofs.Finishing.{Moved, none-moved, dropped, kept, all-moved}
+use Rattle.rules.specs.Holding.{endOf}
+use Rattle.calls.proofs.Finishing.{Moved, none-moved, dropped, kept, stayed, all-moved}
 use Rattle.calls.proofs.finish.finish.Statement.{statement}
 use Rattle.calls.proofs.finish.finish.Tie as tie
 
 abbrev Inv-loop : tie.InvT-loop
-Inv-loop slots₀ n to ends held k₀ i₀ slots k i = (i ≤ n) × (n ≤ mostEvents) × (length slots₀ ≡ mostEvents) × Moved to i slots₀ ends held slots k
+Inv-loop slots₀ n to k₀ i₀ slots k i = (i ≤ n) × Moved to i slots₀ slots k
 
 abbrev μ-loop : tie.MeasureT-loop
-μ-loop slots₀ n to ends held k₀ i₀ slots k i = n - i
+μ-loop slots₀ n to k₀ i₀ slots k i = n - i
 
 loop-holds : tie.Need-loop-holds Inv-loop μ-loop
-loop-holds c = (omega arith, c .pre .0, c .pre .1, none-moved (c .args .to) _ _ _ (c .pre .1))
+loop-holds c = (omega arith, none-moved (c .args .to) _ (c .pre .1))
 
 loop-again : tie.Need-loop-again Inv-loop μ-loop
 loop-again c =
-    let l = c .before .before .before .loop in
-    let a = c .before .before .before .before .args in
-    let v = l .inv in
+    let start = c .before .before .before .before .before .before .before .before in
+    let l = c .before .before .before .before .before .before .before .loop in
+    let a = start .args in
+    let end = ap (λ x. x .time) (c .before .before .effective-end .ensures) ∙ ap endOf (c .before .before .before .before .entry-of .ensures) in
     ⊎-elim
     (λ w. (
       omega arith,
-      v .1,
-      v .2,
-      rw (w .4, w .5) (kept (a .to) (l .i) (a .slots .now) (a .ends .now) (a .held .now) (l .slots) (l .k) (v .3) (omega arith) (v .2) (w .0 .taken) _ (w .3 .ensures)),
+      rw (w .2, w .3)
+          (⊎-elim
+          (λ u. rw (u .1) (kept (a .to) (l .i) (a .slots .now) (l .slots) (l .k) (l .inv .1) (omega arith) (start .pre .1) (rw end at (w .0 .taken))))
+          (λ u. rw (u .1) (stayed (a .to) (l .i) (a .slots .now) (l .slots) (l .k) (l .inv .1) (omega arith) (start .pre .1) (u .0 .left) (rw end at (w .0 .taken))))
+          (w .1 .came)),
     ))
-    (λ w. (omega arith, v .1, v .2, rw (w .1, w .2) (dropped (a .to) (l .i) (a .slots .now) (a .ends .now) (a .held .now) (l .slots) (l .k) (v .3) (omega arith) (v .2) (w .0 .left))))
+    (λ w. (omega arith, rw (w .1, w .2) (dropped (a .to) (l .i) (a .slots .now) (l .slots) (l .k) (l .inv .1) (omega arith) (start .pre .1) (rw end at (w .0 .left)))))
     (c .if1 .came)
 
 returns : tie.Need-returns Inv-loop μ-loop
 returns c =
-    let l = c .before .loop in
-    let a = c .before .before .args in
-    let z : l .i ≡ a .n = omega arith in
-    all-moved (subst (λ d. Moved (a .to) d (a .slots .now) (a .ends .now) (a .held .now) (l .slots) (l .k)) z (l .inv .3))
+    let z : c .before .loop .i ≡ c .before .before .args .n = omega arith in
+    all-moved (rw z at (c .before .loop .inv .1))
 
 pub finish-spec : {M : Type 1} → statement M
 finish-spec =
@@ -50,14 +50,11 @@ finish-spec =
     loop-holds
     (λ c. search needs)
     (λ c. search needs)
-    (λ c. search needs)
-    (λ c. search needs)
-    (λ c. search needs)
-    (λ c. search needs)
     (λ c κs. search needs)
-    (λ c. omega (arith, c .before .before .before .before .before .before .loop .inv .3 .fewer))
-    (λ c. omega (arith, c .before .before .before .before .before .before .loop .inv .3 .fewer))
-    (λ c. omega (arith, c .before .before .before .before .before .before .loop .inv .3 .fewer))
+    (λ c κs. search needs)
+    (λ c. search needs)
+    (λ c. search needs)
+    (λ c. search needs)
     (λ c. search needs)
     (λ c. search needs)
     loop-again

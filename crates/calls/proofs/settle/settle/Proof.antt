@@ -1,4 +1,5 @@
 -- `settle::settle`: the controls below c are decided, those that are not contested are passed.
+use Rattle.calls.specs.Live.{slotsAt}
 use Rattle.calls.proofs.settle.settle.Statement.{statement}
 use Rattle.calls.proofs.settle.settle.Tie as tie
 use mathlib.Core.Path.{_≡_, refl, sym, _∙_}
@@ -12,14 +13,15 @@ use Rattle.rules.specs.declared.Program.{Program}
 use Rattle.calls.specs.Columns.{primaciesOf, createdOf, idsOf}
 use Rattle.calls.specs.Settled.{claimants, settled, rankAt, HasAt, Keeps}
 use Rattle.calls.proofs.Columned.{primacies-long, created-long, ids-long}
+use Rattle.calls.proofs.AtPlaces.{as-many}
 use Rattle.calls.proofs.Settling.{Upto, start, decides, passes, all-done, undisputed}
 use Rattle.calls.proofs.Claimants.{settled-is}
 
 abbrev Inv-loop : tie.InvT-loop
-Inv-loop masks₀ shared programs slots n c₀ masks c = Upto (rankAt (primaciesOf programs slots) (createdOf slots) (idsOf slots)) n masks₀ masks c
+Inv-loop masks₀ shared programs slots places n c₀ masks c = Upto (rankAt (primaciesOf programs (slotsAt slots places)) (createdOf (slotsAt slots places)) (idsOf (slotsAt slots places))) n masks₀ masks c
 
 abbrev μ-loop : tie.MeasureT-loop
-μ-loop masks₀ shared programs slots n c₀ masks c = 32 - c
+μ-loop masks₀ shared programs slots places n c₀ masks c = 32 - c
 
 -- what each place keeps, over slots
 kept : (ms new : List ℕ) (ps : List Program) (w : List (List ℕ)) (n : ℕ) → n ≤ 48 → length ms ≡ 48 → length w ≡ 48 → length new ≡ length ms
@@ -35,7 +37,7 @@ returns : tie.Need-returns Inv-loop μ-loop
 returns c =
     let b = c .before in
     let a = b .args in
-    kept (a .masks .now) (a .masks .now) (a .programs) (a .slots .now) (a .n) (b .pre .0) (b .pre .1 .0) (b .pre .1 .1 .1 .0) refl (undisputed _ (a .n) (a .masks .now) (a .shared) (b .pre .1 .1 .0) (c .if1 .taken))
+    kept (a .masks .now) (a .masks .now) (a .programs) (slotsAt (a .slots .now) (a .places .now)) (a .n) (b .pre .0) (b .pre .1 .0) (as-many (a .slots .now) (a .places .now) ∙ b .pre .1 .1 .1 .0 .1 .long) refl (undisputed _ (a .n) (a .masks .now) (a .shared) (b .pre .1 .1 .0) (c .if1 .taken))
 
 loop-holds : tie.Need-loop-holds Inv-loop μ-loop
 loop-holds c = start
@@ -66,7 +68,7 @@ returns-2 c =
     let b = c .before .before .before in
     let a = b .args in
     let u = c .before .loop .inv in
-    kept (a .masks .now) _ (a .programs) (a .slots .now) (a .n) (b .pre .0) (b .pre .1 .0) (b .pre .1 .1 .1 .0) (u .size) (all-done u (a .shared) (b .pre .1 .1 .0) (omega arith) (c .loop-test .left))
+    kept (a .masks .now) _ (a .programs) (slotsAt (a .slots .now) (a .places .now)) (a .n) (b .pre .0) (b .pre .1 .0) (as-many (a .slots .now) (a .places .now) ∙ b .pre .1 .1 .1 .0 .1 .long) (u .size) (all-done u (a .shared) (b .pre .1 .1 .0) (omega arith) (c .loop-test .left))
 
 pub settle-spec : {M : Type 1} → statement M
 settle-spec =

@@ -1,0 +1,55 @@
+-- What a column of the slots at places has is what the column of all slots has at the place.
+use mathlib.Core.Path.{_≡_, sym, ap, _∙_}
+use Prim.Native.Nat.{ℕ, _<_}
+use mathlib.Core.Bool.{false}
+use mathlib.Core.List.{List, [], map}
+use native.Mathlib.Omega.{arith}
+use lib.ListN.{length, getD, length-map}
+use Rattle.rules.specs.declared.Program.{Program}
+use Rattle.calls.specs.Columns.{stoppedOf, beginsOf, controlsOf, primaciesOf, createdOf, idsOf}
+use Rattle.calls.specs.Settled.{rankAt}
+use Rattle.calls.specs.Live.{slotsAt}
+use Rattle.calls.proofs.Reached.{at-map}
+
+module _ (w : List (List ℕ)) (places : List ℕ) where
+  pub as-many : length (slotsAt w places) ≡ length places
+  unfolding slotsAt
+  as-many = length-map places _
+
+  module _ (k : ℕ) (l : k < length places) where
+    pub slot-there : getD (slotsAt w places) k [] ≡ getD w (getD places k 0) []
+    unfolding slotsAt
+    slot-there = at-map (λ i. getD w i []) 0 [] places k l
+
+    module _ (h : getD places k 0 < length w) where
+      column-there : {A : Type 0} (f : List ℕ → A) (e : A) → getD (map f (slotsAt w places)) k e ≡ getD (map f w) (getD places k 0) e
+      column-there f e = at-map f [] e (slotsAt w places) k (omega (arith, as-many)) ∙ ap f slot-there ∙ sym (at-map f [] e w (getD places k 0) h)
+
+      pub stopped-there : getD (stoppedOf (slotsAt w places)) k false ≡ getD (stoppedOf w) (getD places k 0) false
+      unfolding stoppedOf
+      stopped-there = column-there _ false
+
+      pub begins-there : getD (beginsOf (slotsAt w places)) k 0 ≡ getD (beginsOf w) (getD places k 0) 0
+      unfolding beginsOf
+      begins-there = column-there _ 0
+
+      pub controls-there : getD (controlsOf (slotsAt w places)) k 0 ≡ getD (controlsOf w) (getD places k 0) 0
+      unfolding controlsOf
+      controls-there = column-there _ 0
+
+      primacy-there : (ps : List Program) → getD (primaciesOf ps (slotsAt w places)) k 0 ≡ getD (primaciesOf ps w) (getD places k 0) 0
+      unfolding primaciesOf
+      primacy-there ps = column-there _ 0
+
+      created-there : getD (createdOf (slotsAt w places)) k 0 ≡ getD (createdOf w) (getD places k 0) 0
+      unfolding createdOf
+      created-there = column-there _ 0
+
+      id-there : getD (idsOf (slotsAt w places)) k 0 ≡ getD (idsOf w) (getD places k 0) 0
+      unfolding idsOf
+      id-there = column-there _ 0
+
+      -- so is the rank
+      pub rank-there : (ps : List Program)
+          → rankAt (primaciesOf ps (slotsAt w places)) (createdOf (slotsAt w places)) (idsOf (slotsAt w places)) k ≡ rankAt (primaciesOf ps w) (createdOf w) (idsOf w) (getD places k 0)
+      rank-there ps = λ i. record { primacy = primacy-there ps i; created = created-there i; id = id-there i }
