@@ -1,18 +1,20 @@
 -- The digits of a number that has n of them, written from the last to the first.
-use mathlib.Core.Path.{_≡_, refl, sym, _∙_}
+use mathlib.Core.Path.{_≡_, refl, _∙_}
 use Prim.Native.Nat.{ℕ, zero, suc, _+_, _-_, _*_, _/_, _%_, _^_, _<_, _≤_}
 use mathlib.Core.Bool.{Bool, true, false}
 use mathlib.Core.List.{List, [], _∷_, _++_, append-assoc}
 use native.Mathlib.Nat.{pow-suc, one-le-pow, pow-le-pow-right}
+use native.Mathlib.Numerals.{unary-clauses}
 use native.Mathlib.Omega.{arith}
 use borrow.Author.Tests.{ltb-true, ltb-false}
 use lib.Dec.{ltb}
-use lib.ListN.{length, take, drop, set, length-set, length-append, take-append-drop}
-use lib.Seq.{drop-drop, take-set-le}
+use lib.ListN.{length, take, drop, set, length-append}
+use lib.Seq.{length-take-le, take-append-le, take-take, drop-drop, drop-at}
 use Rattle.rules.specs.Lists.{overAt}
 use Rattle.rules.specs.Printed.{decimal}
-use Rattle.text.specs.Texts.{HasDigits}
-use Rattle.text.proofs.Printing.{decimal-one, decimal-more}
+use Rattle.rules.proofs.Over.{over-size}
+use Rattle.text.specs.Texts.{HasDigits, lastFour}
+use Rattle.text.proofs.Printing.{put-one, decimal-one, decimal-more}
 
 pub some-digit : (n x : ℕ) → HasDigits n x → 0 < n
 some-digit zero x h = absurd (omega (arith, h .below, h .from))
@@ -27,6 +29,12 @@ one-digit (suc (suc n)) x h k = absurd (omega (arith, h .from, pow-suc 10 (suc n
 pub digit-less : (n x : ℕ) → HasDigits (suc n) x → 9 < x → HasDigits n (x / 10)
 digit-less zero x h k = absurd (omega (arith, h .below))
 digit-less (suc n) x h k = record { below = omega (arith, h .below, pow-suc 10 (suc n)); from = omega (arith, h .from, pow-suc 10 (suc n), pow-suc 10 n) }
+
+-- and four more than the ten thousandth part
+pub four-more : (n x : ℕ) → HasDigits n (x / 10000) → HasDigits (n + 4) x
+four-more n x h =
+    let p : 10 ^ (n + 4) ≡ 10000 * 10 ^ n = simp unary-clauses (omega arith) in
+    record { below = omega (arith, h .below, p); from = omega (arith, h .from, p) }
 
 pub has-length : (n x : ℕ) → HasDigits n x → length (decimal n x) ≡ n
 has-length zero x h = absurd (omega (arith, some-digit 0 x h))
@@ -60,43 +68,67 @@ few-digits n x h k = go (ltb 20 n) refl
         absurd (omega (arith, h .from))
     go false p = ltb-false 20 n p
 
-stored : (l : List ℕ) (k b : ℕ) → k < length l → drop k (set l k b) ≡ b ∷ drop (suc k) l
-stored [] k b h = absurd (omega arith)
-stored (x ∷ l) zero b h = refl
-stored (x ∷ l) (suc k) b h = stored l k b (omega arith)
+-- a text over what was written behind it
+over-before : (at : ℕ) (s t l : List ℕ) → at + length s ≤ length l → overAt at s (overAt (at + length s) t l) ≡ overAt at (s ++ t) l
+over-before at s t l h =
+    let k = at + length s in
+    let r = t ++ drop (length t) (drop k l) in
+    let n = length-take-le k l h in
+    let a : k + length t ≡ at + (length s + length t) = omega arith in
+    rw (take-append-le at (take k l) r (omega arith), take-take at k l (omega arith), drop-drop (length s) at (take k l ++ r), drop-at (take k l) r k n)
+    (simp (append-assoc, length-append, drop-drop, a))
+
+-- the digits of x are those of its front and then `last`
+pub record Split (n x : ℕ) (last : List ℕ) (m front : ℕ) : Type 0 where
+  pub digits : HasDigits m front
+  pub is : decimal n x ≡ decimal m front ++ last
+  pub count : n ≡ m + length last
+
+split-one : (n x : ℕ) → HasDigits n x → 9 < x → Split n x ((48 + x % 10) ∷ []) (n - 1) (x / 10)
+split-one zero x h k = absurd (omega (arith, some-digit 0 x h))
+split-one (suc n) x h k =
+    let d : suc n - 1 ≡ n = omega arith in
+    record { digits = rw d (digit-less n x h k); is = decimal-more (suc n) x (λ e. omega arith) k; count = omega arith }
+
+split-then : {n x m y k z : ℕ} {s t : List ℕ} → Split n x t m y → Split m y s k z → Split n x (s ++ t) k z
+split-then {k = k} {z = z} {s = s} {t = t} p q =
+    record { digits = q .digits; is = p .is ∙ rw (q .is) (append-assoc (decimal k z) s t); count = omega (arith, p .count, q .count, length-append s t) }
+
+pub split-four : (n x : ℕ) → HasDigits n x → 9999 < x → Split n x (lastFour x) (n - 4) (x / 10000)
+split-four n x h k =
+    let p = split-one n x h (omega arith) in
+    let q = split-one (n - 1) (x / 10) (p .digits) (omega arith) in
+    let r = split-one (n - 1 - 1) (x / 10 / 10) (q .digits) (omega arith) in
+    let s = split-one (n - 1 - 1 - 1) (x / 10 / 10 / 10) (r .digits) (omega arith) in
+    let a : x / 10 / 10 ≡ x / 100 = omega arith in
+    let b : x / 100 / 10 ≡ x / 1000 = omega arith in
+    let d : x / 1000 / 10 ≡ x / 10000 = omega arith in
+    let e : n - 1 - 1 - 1 - 1 ≡ n - 4 = omega arith in
+    rw (a, b, d, e) at (split-then p (split-then q (split-then r s)))
 
 -- of the n digits of x the last ones stand in the buffer, and those of `rest`, i of them, are still to be written
 pub record Left (old : List ℕ) (at n x : ℕ) (new : List ℕ) (rest i : ℕ) : Type 0 where
   pub digits : HasDigits i rest
   pub size : length new ≡ length old
-  pub front : take at new ≡ take at old
-  pub back : decimal i rest ++ drop (at + i) new ≡ decimal n x ++ drop (at + n) old
+  pub is : overAt at (decimal i rest) new ≡ overAt at (decimal n x) old
 
 pub left-all : {l : List ℕ} {at n x : ℕ} → HasDigits n x → Left l at n x l x n
-left-all h = record { digits = h; size = refl; front = refl; back = refl }
+left-all h = record { digits = h; size = refl; is = refl }
 
-module _ {old : List ℕ} {at n x : ℕ} {new : List ℕ} {rest : ℕ} where
-  pub left-less : (i : ℕ) → 9 < rest → at + i ≤ length old → Left old at n x new rest i
-      → Left old at n x (set new (at + (i - 1)) (48 + rest % 10)) (rest / 10) (i - 1)
-  left-less zero k h l = absurd (omega (arith, some-digit 0 rest (l .digits)))
-  left-less (suc i) k h l =
-      let b = 48 + rest % 10 in
-      let d : suc i - 1 ≡ i = omega arith in
-      let e : at + suc i ≡ suc (at + i) = omega arith in
-      rw d
-      (record {
-        digits = digit-less i rest (l .digits) k;
-        size = length-set new (at + i) b ∙ l .size;
-        front = take-set-le at new (at + i) b (omega arith) ∙ l .front;
-        back = rw (stored new (at + i) b (omega (arith, l .size))) (rw (e, decimal-more (suc i) rest (λ z. omega arith) k, d, append-assoc) at (l .back));
-      })
+module _ {old : List ℕ} {at n x : ℕ} {new : List ℕ} {rest i : ℕ} (h : at + i ≤ length old) (l : Left old at n x new rest i) where
+  left-less : {last : List ℕ} {m front : ℕ} → Split i rest last m front → Left old at n x (overAt (at + m) last new) front m
+  left-less {last} {m} {front} s =
+      let e : at + length (decimal m front) ≡ at + m = omega (arith, has-length m front (s .digits)) in
+      record {
+        digits = s .digits;
+        size = over-size (at + m) last new (omega (arith, s .count, l .size)) ∙ l .size;
+        is = rw e at (over-before at (decimal m front) last new (omega (arith, s .count, l .size))) ∙ rw (s .is) at (l .is);
+      }
 
-  pub left-one : (i : ℕ) → rest < 10 → HasDigits n x → at < length old → Left old at n x new rest i → set new at (48 + rest) ≡ overAt at (decimal n x) old
-  left-one i k h r l =
-      let b = 48 + rest in
-      let z : i ≡ 1 = one-digit i rest (l .digits) k in
-      let s : at + 1 ≡ suc at = omega arith in
-      let back : b ∷ drop (suc at) new ≡ decimal n x ++ drop (at + n) old = rw (z, decimal-one 1 rest (λ e. omega arith) k, s) at (l .back) in
-      let e : at + length (decimal n x) ≡ at + n = omega (arith, has-length n x h) in
-      sym (take-append-drop at (set new at b))
-      ∙ rw (take-set-le at new at b (omega arith), l .front, stored new at b (omega (arith, l .size)), back, drop-drop, e)
+  pub left-one : 9 < rest → Left old at n x (set new (at + (i - 1)) (48 + rest % 10)) (rest / 10) (i - 1)
+  left-one k =
+      rw (put-one {l = new} {at = at + (i - 1)} (48 + rest % 10) (omega (arith, some-digit i rest (l .digits), l .size)) .is)
+      (left-less (split-one i rest (l .digits) k))
+
+  pub left-four : 9999 < rest → Left old at n x (overAt (at + (i - 4)) (lastFour rest) new) (rest / 10000) (i - 4)
+  left-four k = left-less (split-four i rest (l .digits) k)

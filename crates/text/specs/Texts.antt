@@ -1,8 +1,8 @@
 -- Texts written into a buffer, one behind the other.
 use mathlib.Core.Path.{_≡_}
-use Prim.Native.Nat.{ℕ, _+_, _*_, _^_, _≤_, _<_}
+use Prim.Native.Nat.{ℕ, _+_, _*_, _/_, _%_, _^_, _≤_, _<_}
 use mathlib.Core.Bool.{cond}
-use mathlib.Core.List.{List, []}
+use mathlib.Core.List.{List, [], _∷_}
 use lib.Dec.{leb}
 use lib.ListN.{length}
 use Rattle.rules.specs.Lists.{overAt}
@@ -18,6 +18,10 @@ pub record Stands (old : List ℕ) (at : ℕ) (text new : List ℕ) (behind : �
 pub record HasDigits (n x : ℕ) : Type 0 where
   pub below : x < 10 ^ n
   pub from : 10 ^ n ≤ 10 * x
+
+-- the last four decimal digits of a number, zeros too
+abbrev pub lastFour : ℕ → List ℕ
+lastFour x = (48 + x / 1000 % 10) ∷ (48 + x / 100 % 10) ∷ (48 + x / 10 % 10) ∷ (48 + x % 10) ∷ []
 
 -- no line's text is longer: 96 rows of three numbers of at most 20 digits
 abbrev pub mostText : ℕ

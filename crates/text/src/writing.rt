@@ -8,28 +8,36 @@ ghost use lib.ListN.{length};
 ghost use Rattle.rules.specs.Lists.{overAt};
 ghost use Rattle.rules.specs.Calls.{Outcome, numberOf, valueOf, counted};
 ghost use Rattle.rules.specs.Printed.{decimal, digits, space, refusedText, threeText, codeText, rowsText, askText, frameText};
-ghost use Rattle.text.specs.Texts.{HasDigits, Stands, mostText, rowText};
+ghost use Rattle.text.specs.Texts.{HasDigits, Stands, lastFour, mostText, rowText};
 use rules::Answer;
 use rules::Frame;
 use rules::Id;
 
-// How many decimal digits a number that is not 0 has: one more for each power of ten that is not above it.
+// How many decimal digits a number that is not 0 has: four for each division by 10000, and those of what is left.
 fn length_of(x: u64) -> usize
     requires { ⌜ 0 < x ⌝ }
     ensures { λ r. ⌜ HasDigits r x ⌝ }
 {
-    let front = x / 10;
-    let mut limit: u64 = 1;
+    let mut rest = x;
     let mut n = 1;
-    while limit <= front {
-        limit *= 10;
-        n += 1;
+    while 9999 < rest {
+        rest /= 10000;
+        n += 4;
+    }
+    if 999 < rest {
+        return n + 3;
+    }
+    if 99 < rest {
+        return n + 2;
+    }
+    if 9 < rest {
+        return n + 1;
     }
     n
 }
 
-// The n digits of a number, from the last to the first.
-fn put_digits(out: &mut [u8], at: usize, n: usize, x: u64)
+// The n digits of a number, one to a division, from the last to the first.
+fn put_singly(out: &mut [u8], at: usize, n: usize, x: u64)
     requires { ⌜ HasDigits n x × (at + n ≤ length (now out)) ⌝ }
     ensures { λ _. ⌜ now (out .exit) ≡ overAt at (decimal n x) (now (out .entry)) ⌝ }
 {
@@ -41,6 +49,33 @@ fn put_digits(out: &mut [u8], at: usize, n: usize, x: u64)
         rest /= 10;
     }
     out[at] = b'0' + rest as u8;
+}
+
+// The last four digits of a number, zeros too.
+fn put_four(out: &mut [u8], at: usize, x: u64)
+    requires { ⌜ at + 4 ≤ length (now out) ⌝ }
+    ensures { λ _. ⌜ now (out .exit) ≡ overAt at (lastFour x) (now (out .entry)) ⌝ }
+{
+    let four = x % 10000;
+    out[at] = b'0' + (four / 1000) as u8;
+    out[at + 1] = b'0' + (four / 100 % 10) as u8;
+    out[at + 2] = b'0' + (four / 10 % 10) as u8;
+    out[at + 3] = b'0' + (four % 10) as u8;
+}
+
+// The n digits of a number, four to a division as long as more than four are left.
+fn put_digits(out: &mut [u8], at: usize, n: usize, x: u64)
+    requires { ⌜ HasDigits n x × (at + n ≤ length (now out)) ⌝ }
+    ensures { λ _. ⌜ now (out .exit) ≡ overAt at (decimal n x) (now (out .entry)) ⌝ }
+{
+    let mut rest = x;
+    let mut i = n;
+    while 9999 < rest {
+        i -= 4;
+        put_four(out, at + i, rest);
+        rest /= 10000;
+    }
+    put_singly(out, at, i, rest);
 }
 
 // A number in decimal digits, no zero in front.

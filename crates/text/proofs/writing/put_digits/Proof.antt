@@ -1,9 +1,9 @@
 -- The loop has the first i digits left to write.
-use Prim.Native.Nat.{_+_, _≤_, _<_}
+use mathlib.Core.Path.{_∙_}
+use Prim.Native.Nat.{_≤_}
 use native.Mathlib.Omega.{arith}
 use borrow.Author.Needs.{needs}
-use lib.ListN.{length, length-set}
-use Rattle.text.proofs.Digits.{some-digit, Left, left-all, left-less, left-one}
+use Rattle.text.proofs.Digits.{split-four, Left, left-all, left-four}
 use Rattle.text.proofs.writing.put_digits.Statement.{statement}
 use Rattle.text.proofs.writing.put_digits.Tie as tie
 
@@ -14,31 +14,26 @@ abbrev μ-loop : tie.MeasureT-loop
 μ-loop out₀ at n x rest₀ i₀ out rest i = rest
 
 loop-holds : tie.Need-loop-holds Inv-loop μ-loop
-loop-holds c = (omega arith, left-all (c .pre .0))
+loop-holds c = (omega arith, left-all (c .before .pre .0))
 
 sub-i : tie.Need-sub-i Inv-loop μ-loop
-sub-i c = let l = c .before .loop in omega (arith, some-digit (l .i) (l .rest) (l .inv .1 .digits))
+sub-i c = let l = c .before .loop in omega (arith, split-four (l .i) (l .rest) (l .inv .1 .digits) (omega arith) .count)
 
-slice-write-out : tie.Need-slice-write-out Inv-loop μ-loop
-slice-write-out c = let l = c .before .loop in omega (arith, some-digit (l .i) (l .rest) (l .inv .1 .digits), l .inv .1 .size)
+put-four-requires : tie.Need-put-four-requires Inv-loop μ-loop
+put-four-requires c κs =
+    let l = c .before .before .loop in
+    omega (arith, split-four (l .i) (l .rest) (l .inv .1 .digits) (omega arith) .count, l .inv .1 .size)
 
 loop-again : tie.Need-loop-again Inv-loop μ-loop
-loop-again c = let l = c .before .loop in (omega arith, left-less (l .i) (omega arith) (omega arith) (l .inv .1))
+loop-again c =
+    let l = c .before .before .before .before .before .loop in
+    (omega arith, rw (c .before .before .put-four .ensures) (left-four (omega arith) (l .inv .1) (omega arith)))
 
--- there is a place for the first one
-write : tie.Need-slice-write-out-2 Inv-loop μ-loop
-write c =
-    let d = c .before .before in
-    omega (arith, some-digit (d .args .n) (d .args .x) (d .pre .0), c .before .loop .inv .1 .size)
-
-same-length : tie.Need-same-length Inv-loop μ-loop
-same-length c = simp length-set (c .before .loop .inv .1 .size)
+put-singly-requires : tie.Need-put-singly-requires Inv-loop μ-loop
+put-singly-requires c κs = let l = c .before .before .loop in (l .inv .1 .digits, omega (arith, l .inv .1 .size))
 
 returns : tie.Need-returns Inv-loop μ-loop
-returns c =
-    let d = c .before .before in
-    let l = c .before .loop in
-    left-one (l .i) (omega arith) (d .pre .0) (omega (arith, some-digit (d .args .n) (d .args .x) (d .pre .0))) (l .inv .1)
+returns c = c .before .before .put-singly .ensures ∙ c .before .before .before .before .before .loop .inv .1 .is
 
 pub put-digits-spec : {M : Type 1} → statement M
 put-digits-spec =
@@ -49,13 +44,9 @@ put-digits-spec =
     loop-holds
     sub-i
     (λ c. search needs)
-    (λ c. search needs)
-    (λ c. search needs)
-    slice-write-out
+    put-four-requires
     (λ c. search needs)
     loop-again
+    put-singly-requires
     (λ c. search needs)
-    (λ c. search needs)
-    write
-    same-length
     returns)
