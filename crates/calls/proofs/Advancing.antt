@@ -25,7 +25,7 @@ use Rattle.rules.proofs.Bound.{few-rows}
 use Rattle.rules.proofs.Jump.{onward, Idle}
 use Rattle.calls.specs.declared.held.Head.{Head}
 use Rattle.calls.specs.Slots.{entryOf, stateOf, scheduleOf, Ready}
-use Rattle.calls.specs.Columns.{stoppedOf, beginsOf, controlsOf, primaciesOf, createdOf, idsOf, Numbered, Dated, Claims, Codes, nextOf, momentRows, Written}
+use Rattle.calls.specs.Columns.{primaciesOf, createdOf, idsOf, Numbered, Running, Dated, Claims, Codes, nextOf, momentRows, Written}
 use Rattle.calls.specs.Held.{Columns, columnsOf, Columned, Long}
 use Rattle.calls.specs.Settled.{claimants, settled}
 use Rattle.calls.specs.Live.{placesTo, masked}
@@ -114,9 +114,9 @@ module _ {s : Schedule} {to n : ℕ} {c : Columns} {old rows held : List ℕ} {c
     -- A moment up to the reading.
 
     module _ (h : t ≤ to) (claims kept codes : List ℕ)
-        (p : Claims t n (c .stopped) (c .ends) (c .begins) (c .controls) held claims)
+        (p : Claims t n (c .begins) (c .ends) (c .controls) held claims)
         (q : take n kept ≡ settled (claimants (take n claims) (take n (c .primacies)) (take n (c .created)) (take n (c .ids))))
-        (r : Codes t n (c .stopped) (c .ends) (c .begins) held kept codes) where
+        (r : Codes t n (c .begins) (c .ends) held kept codes) where
       abbrev next : List Entry
       next = settledAt ps t (g .us)
 
@@ -206,33 +206,34 @@ module _ {d : Head} {w : List (List ℕ)} (r : Ready d w) where
   abbrev whole-of : Schedule
   whole-of = scheduleOf d w
 
-  -- a column has the fields of the entries
-  column : {A : Type 0} (f : Entry → A) (e : A) (k : ℕ) → k < d .count → getD (map (λ x. f (entryOf x)) w) k e ≡ f (getD (whole-of .entries) k noEntry)
-  column f e k l = at-map (λ x. f (entryOf x)) [] e w k (omega (arith, within r)) ∙ sym (ap f (entry-at r k l))
+  -- a column of the slots has the fields of the entries
+  column : (f : Entry → ℕ) (k : ℕ) → k < d .count → getD (map (λ x. f (entryOf x)) w) k 0 ≡ f (getD (whole-of .entries) k noEntry)
+  column f k l = at-map (λ x. f (entryOf x)) [] 0 w k (omega (arith, within r)) ∙ sym (ap f (entry-at r k l))
 
-  columned : (ends held : List ℕ) → Dated (d .count) w ends held → Columned (d .programs) (whole-of .entries) (d .count) (columnsOf (d .programs) w ends)
-  unfolding stoppedOf beginsOf controlsOf primaciesOf createdOf idsOf
-  columned ends held t = record {
-    stopped = column (λ h. h .cancelled) false;
-    ends = λ k l. t .dated k l ∙ sym (ap endOf (entry-at r k l));
-    begins = column (λ h. h .begins) 0;
-    controls = column (λ h. h .event .controls) 0;
-    primacies = column (λ h. programAt (d .programs) (h .event .program) .primacy) 0;
-    created = column (λ h. h .event .created) 0;
-    ids = column (λ h. idOf (h .event)) 0;
-  }
+  module _ (running : Running (d .count) w) (begins ends carried held : List ℕ) (t : Dated (d .count) w begins ends carried held) where
+    abbrev columns : Columns
+    columns = columnsOf (d .programs) w begins ends carried
 
-  long-of : (ends : List ℕ) → Long (columnsOf (d .programs) w ends)
-  long-of ends = record { primacies = primacies-long w (d .programs) ∙ r .size; created = created-long w ∙ r .size; ids = ids-long w ∙ r .size }
+    columned : Columned (d .programs) (whole-of .entries) (d .count) columns
+    unfolding primaciesOf createdOf idsOf
+    columned = record {
+      running = λ k l. ap (λ h. h .cancelled) (entry-at r k l) ∙ running k l;
+      begins = λ k l. t .from k l ∙ sym (ap (λ h. h .begins) (entry-at r k l));
+      ends = λ k l. t .till k l ∙ sym (ap endOf (entry-at r k l));
+      controls = λ k l. t .controls k l ∙ sym (ap (λ h. h .event .controls) (entry-at r k l));
+      primacies = column (λ h. programAt (d .programs) (h .event .program) .primacy);
+      created = column (λ h. h .event .created);
+      ids = column (λ h. idOf (h .event));
+    }
 
-  pub begin : (to : ℕ) (ends held old : List ℕ) → d .clock ≤ to → to ≤ lastClock → length old ≡ 1632 → Dated (d .count) w ends held
-      → Going whole-of to (d .count) (columnsOf (d .programs) w ends) old old held (d .clock) 0
-  begin to ends held old h l size t =
-      let c = columnsOf (d .programs) w ends in
-      subst (λ n. Going whole-of to n c old old held (d .clock) 0) (count-of r)
-      (start whole-of to c old held (r .good) h l size
-      (subst (λ n. Columned (d .programs) (whole-of .entries) n c) (sym (count-of r)) (columned ends held t)) (long-of ends)
-      (λ k i. let j : k < d .count = omega (arith, count-of r) in t .masks k j ∙ sym (ap (λ h. h .held) (entry-at r k j))))
+    long-of : Long columns
+    long-of = record { primacies = primacies-long w (d .programs) ∙ r .size; created = created-long w ∙ r .size; ids = ids-long w ∙ r .size }
+
+    pub begin : (to : ℕ) (old : List ℕ) → d .clock ≤ to → to ≤ lastClock → length old ≡ 1632 → Going whole-of to (d .count) columns old old held (d .clock) 0
+    begin to old h l size =
+        subst (λ n. Going whole-of to n columns old old held (d .clock) 0) (count-of r)
+        (start whole-of to columns old held (r .good) h l size (subst (λ n. Columned (d .programs) (whole-of .entries) n columns) (sym (count-of r)) columned) long-of
+        (λ k i. let j : k < d .count = omega (arith, count-of r) in t .masks k j ∙ sym (ap (λ h. h .held) (entry-at r k j))))
 
   -- the events of sound slots have programs
   pub numbered : Numbered (d .count) w

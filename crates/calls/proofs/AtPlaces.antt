@@ -1,12 +1,11 @@
 -- What a column of the slots at places has is what the column of all slots has at the place.
 use mathlib.Core.Path.{_≡_, sym, ap, _∙_}
 use Prim.Native.Nat.{ℕ, _<_}
-use mathlib.Core.Bool.{false}
 use mathlib.Core.List.{List, [], map}
 use native.Mathlib.Omega.{arith}
 use lib.ListN.{length, getD, length-map}
 use Rattle.rules.specs.declared.Program.{Program}
-use Rattle.calls.specs.Columns.{stoppedOf, beginsOf, controlsOf, primaciesOf, createdOf, idsOf}
+use Rattle.calls.specs.Columns.{primaciesOf, createdOf, idsOf}
 use Rattle.calls.specs.Settled.{rankAt}
 use Rattle.calls.specs.Live.{slotsAt}
 use Rattle.calls.proofs.Reached.{at-map}
@@ -24,18 +23,6 @@ module _ (w : List (List ℕ)) (places : List ℕ) where
     module _ (h : getD places k 0 < length w) where
       column-there : {A : Type 0} (f : List ℕ → A) (e : A) → getD (map f (slotsAt w places)) k e ≡ getD (map f w) (getD places k 0) e
       column-there f e = at-map f [] e (slotsAt w places) k (omega (arith, as-many)) ∙ ap f slot-there ∙ sym (at-map f [] e w (getD places k 0) h)
-
-      pub stopped-there : getD (stoppedOf (slotsAt w places)) k false ≡ getD (stoppedOf w) (getD places k 0) false
-      unfolding stoppedOf
-      stopped-there = column-there _ false
-
-      pub begins-there : getD (beginsOf (slotsAt w places)) k 0 ≡ getD (beginsOf w) (getD places k 0) 0
-      unfolding beginsOf
-      begins-there = column-there _ 0
-
-      pub controls-there : getD (controlsOf (slotsAt w places)) k 0 ≡ getD (controlsOf w) (getD places k 0) 0
-      unfolding controlsOf
-      controls-there = column-there _ 0
 
       primacy-there : (ps : List Program) → getD (primaciesOf ps (slotsAt w places)) k 0 ≡ getD (primaciesOf ps w) (getD places k 0) 0
       unfolding primaciesOf

@@ -1,14 +1,12 @@
 -- What a column has at a place is a field of the event in the slot there.
 use mathlib.Core.Path.{_≡_}
 use Prim.Native.Nat.{ℕ, _%_, _<_}
-use mathlib.Core.Bool.{false}
 use mathlib.Core.List.{List, []}
-use lib.Dec.{eqb}
 use lib.ListN.{length, getD, length-map}
 use Rattle.rules.specs.declared.Program.{Program}
 use Rattle.rules.specs.Records.{programAt}
 use Rattle.calls.specs.Slots.{entryOf}
-use Rattle.calls.specs.Columns.{stoppedOf, beginsOf, controlsOf, primaciesOf, createdOf, idsOf}
+use Rattle.calls.specs.Columns.{primaciesOf, createdOf, idsOf}
 use Rattle.calls.proofs.Reached.{at-map}
 
 module _ (w : List (List ℕ)) where
@@ -27,18 +25,6 @@ module _ (w : List (List ℕ)) where
   ids-long = length-map w _
 
   module _ (k : ℕ) (l : k < length w) where
-    pub stopped-at : getD (stoppedOf w) k false ≡ eqb (getD (getD w k []) 12 0) 1
-    unfolding stoppedOf entryOf
-    stopped-at = at-map _ [] false w k l
-
-    pub begins-at : getD (beginsOf w) k 0 ≡ getD (getD w k []) 10 0
-    unfolding beginsOf entryOf
-    begins-at = at-map _ [] 0 w k l
-
-    pub controls-at : getD (controlsOf w) k 0 ≡ getD (getD w k []) 2 0 % 4294967296
-    unfolding controlsOf entryOf
-    controls-at = at-map _ [] 0 w k l
-
     pub primacy-at : (ps : List Program) → getD (primaciesOf ps w) k 0 ≡ programAt ps (getD (getD w k []) 1 0 % 256) .primacy
     unfolding primaciesOf entryOf
     primacy-at ps = at-map _ [] 0 w k l

@@ -8,7 +8,7 @@ use native.Mathlib.Omega.{arith}
 use lib.Dec.{ltb, leb, eqb}
 use lib.ListN.{length, take, getD, length-map}
 use lib.Seq.{ext-getD, getD-take, length-take-le}
-use borrow.Author.Tests.{eqb-true, leb-false, ltb-false, lt-ltb}
+use borrow.Author.Tests.{eqb-true, leb-false, ltb-false, lt-ltb, not-true}
 use Rattle.rules.specs.declared.Entry.{Entry}
 use Rattle.rules.specs.declared.Program.{Program}
 use Rattle.rules.specs.declared.Schedule.{Schedule}
@@ -19,17 +19,19 @@ use Rattle.rules.specs.Period.{effectiveEnd}
 use Rattle.rules.specs.Holding.{withHolding, endOf}
 use Rattle.rules.specs.Moments.{lasts, advance, passed}
 use Rattle.rules.specs.Arrival.{Apart}
-use Rattle.rules.proofs.Tests.{both}
+use Rattle.rules.proofs.Tests.{both, each-true}
 use Rattle.rules.proofs.ListLaws.{in-keep, keep-in, keep-map, keep-all, keep-length, asc-keep, map-cong}
 use Rattle.rules.proofs.SoundState.{SoundEntry, Sound, ById, sound-pad}
 use Rattle.calls.specs.declared.held.Head.{Head}
 use Rattle.calls.specs.Slots.{entryOf, stateOf, scheduleOf, Ready}
+use Rattle.calls.specs.Columns.{Running}
 use Rattle.calls.specs.Live.{liveOf, live, placesTo, livePlaces, slotsAt, Placed, Picked, GivenBack, masked}
 use Rattle.calls.specs.Advanced.{Advanced, Passes}
 use Rattle.calls.specs.Finished.{Finished}
 use Rattle.calls.proofs.Reached.{at-in, in-at, at-map}
 use Rattle.calls.proofs.Slots.{in-slots, slot-at, within, count-of, view-of, sound-of, entry-at}
 use Rattle.calls.proofs.Undropped.{stateIn}
+use Rattle.calls.proofs.AtPlaces.{as-many, slot-there}
 use Rattle.calls.proofs.Deciding.{ascending}
 use Rattle.calls.proofs.Asleep.{Asleep, places-length, place-below, place-at, place-in, places-ascend, by-place, movedTo, pickOf, Parts, parts}
 
@@ -147,12 +149,16 @@ module _ {d : Head} {w : List (List ℕ)} (r : Ready d w) {to m : ℕ} {places :
   some = stateOf part (slotsAt w places) .entries
 
   size-of : length (slotsAt w places) ≡ 48
-  unfolding slotsAt
-  size-of = length-map places _ ∙ p .long
+  size-of = as-many w places ∙ p .long
 
   slot-of : (j : ℕ) → j < m → getD (slotsAt w places) j [] ≡ getD w (getD places j 0) []
-  unfolding slotsAt
-  slot-of j l = at-map (λ i. getD w i []) 0 [] places j (omega (arith, fits))
+  slot-of j l = slot-there w places j (omega (arith, fits))
+
+  pub running : Running m (slotsAt w places)
+  unfolding liveOf
+  running j l =
+      let i = getD places j 0 in
+      ap (λ x. entryOf x .cancelled) (slot-of j l) ∙ not-true (here i .cancelled) (each-true (not (here i .cancelled)) _ (at-place j l .1) .0)
 
   some-here : some ≡ map here lively
   some-here =

@@ -4,6 +4,7 @@ use mathlib.Core.Logic.{_⊎_, inl, inr, ⊎-elim}
 use Prim.Native.Nat.{ℕ, zero, suc, _+_, _-_, _<_, _≤_, min}
 use mathlib.Core.Bool.{Bool, true, false, cond}
 use mathlib.Core.List.{List, [], _∷_, _++_, map, map-append}
+use native.Mathlib.Numerals.{add-one}
 use native.Mathlib.Omega.{arith}
 use lib.Dec.{leb, ltb, eqb}
 use lib.ListN.{length, take, getD, length-take, length-map}
@@ -59,8 +60,8 @@ module _ (ps : List Program) (hs us : List Entry) (n : ℕ) (c : Columns) (w : C
   abbrev at : ℕ → Entry
   at k = getD us k noEntry
 
-  is-stopped : (k : ℕ) → k < n → getD (c .stopped) k false ≡ at k .cancelled
-  is-stopped k l = w .stopped k l ∙ sym (v .alike k l .cancelled)
+  is-running : (k : ℕ) → k < n → at k .cancelled ≡ false
+  is-running k l = v .alike k l .cancelled ∙ w .running k l
 
   pub is-end : (k : ℕ) → k < n → getD (c .ends) k 0 ≡ endOf (at k)
   is-end k l = w .ends k l ∙ sym (ap (λ e. endOf (record { event = e; begins = 0; held = 0; cancelled = false })) (v .alike k l .event))
@@ -71,16 +72,16 @@ module _ (ps : List Program) (hs us : List Entry) (n : ℕ) (c : Columns) (w : C
   pub of-event : (f : Event → ℕ) (a : List ℕ) → ((k : ℕ) → k < n → getD a k 0 ≡ f (getD hs k noEntry .event)) → (k : ℕ) → k < n → getD a k 0 ≡ f (at k .event)
   of-event f a h k l = h k l ∙ sym (ap f (v .alike k l .event))
 
-  claims-are : (claims : List ℕ) → Claims t n (c .stopped) (c .ends) (c .begins) (c .controls) held claims → (k : ℕ) → k < n → getD claims k 0 ≡ claim t (at k)
+  claims-are : (claims : List ℕ) → Claims t n (c .begins) (c .ends) (c .controls) held claims → (k : ℕ) → k < n → getD claims k 0 ≡ claim t (at k)
   unfolding claimOf claim
   claims-are claims q k l =
       q .each k l
-      ∙ rw (is-stopped k l, is-end k l, is-begins k l, of-event (λ e. e .controls) (c .controls) (w .controls) k l, v .held k l)
+      ∙ rw (is-running k l, is-end k l, is-begins k l, of-event (λ e. e .controls) (c .controls) (w .controls) k l, v .held k l)
 
-  pub codes-are : (kept codes : List ℕ) → ((k : ℕ) → k < n → getD kept k 0 ≡ heldAt ps t us (at k)) → Codes t n (c .stopped) (c .ends) (c .begins) held kept codes
+  pub codes-are : (kept codes : List ℕ) → ((k : ℕ) → k < n → getD kept k 0 ≡ heldAt ps t us (at k)) → Codes t n (c .begins) (c .ends) held kept codes
       → (k : ℕ) → k < n → getD codes k 0 ≡ codeAt t (at k) (holdingAt ps t us (at k))
   unfolding codeOf codeAt holdingAt
-  codes-are kept codes h q k l = q .each k l ∙ rw (is-stopped k l, is-end k l, is-begins k l, v .held k l, h k l)
+  codes-are kept codes h q k l = q .each k l ∙ rw (is-running k l, is-end k l, is-begins k l, v .held k l, h k l)
 
   -- Settled.
 
@@ -103,7 +104,7 @@ module _ (ps : List Program) (hs us : List Entry) (n : ℕ) (c : Columns) (w : C
   settled-is (x ∷ xs) = ap₂ _∷_ (ap (cut (claim t x)) (taken-is x us)) (settled-is xs)
 
   module _ (claims kept : List ℕ) (l1 : n ≤ length claims) (l2 : n ≤ length (c .primacies)) (l3 : n ≤ length (c .created)) (l4 : n ≤ length (c .ids))
-      (q : Claims t n (c .stopped) (c .ends) (c .begins) (c .controls) held claims)
+      (q : Claims t n (c .begins) (c .ends) (c .controls) held claims)
       (e : take n kept ≡ settled (claimants (take n claims) (take n (c .primacies)) (take n (c .created)) (take n (c .ids)))) where
     all-kept : take n kept ≡ map (heldAt ps t us) us
     unfolding settled
@@ -166,7 +167,7 @@ module _ (ps : List Program) (hs us : List Entry) (n : ℕ) (c : Columns) (w : C
 -- The next moment.
 
 -- the sooner of two may be taken before or after
-pub nearest-sooner : (clock x best t : ℕ) → min t (nearest clock x best) ≡ nearest clock x (min t best)
+nearest-sooner : (clock x best t : ℕ) → min t (nearest clock x best) ≡ nearest clock x (min t best)
 unfolding nearest
 nearest-sooner clock x best t = go (leb x clock) (ltb x best) (ltb x (min t best)) refl refl
   where
@@ -176,6 +177,18 @@ nearest-sooner clock x best t = go (leb x clock) (ltb x best) (ltb x (min t best
     go false true false p q = omega (arith, ltb-true x best p, ltb-false x (min t best) q)
     go false false true p q = omega (arith, ltb-false x best p, ltb-true x (min t best) q)
     go false false false p q = refl
+
+-- one event more
+pub next-more : (clock limit t i : ℕ) (begins ends : List ℕ) → t ≡ nextOf clock limit i begins ends → t ≤ limit
+    → min t (nearest clock (getD begins i 0) (nearest clock (getD ends i 0) limit)) ≡ nextOf clock limit (i + 1) begins ends
+unfolding nextOf
+next-more clock limit t i begins ends e l =
+    let b = getD begins i 0 in
+    let f = getD ends i 0 in
+    let within : min t limit ≡ t = omega arith in
+    nearest-sooner clock b (nearest clock f limit) t
+    ∙ ap (nearest clock b) (nearest-sooner clock f limit t ∙ ap (nearest clock f) (within ∙ e))
+    ∙ ap (λ k. nextOf clock limit k begins ends) (sym (add-one i))
 
 nearest-after : (clock x best : ℕ) → clock < best → (clock < nearest clock x best) × (nearest clock x best ≤ best) × ((x ≤ clock) ⊎ (nearest clock x best ≤ x))
 unfolding nearest

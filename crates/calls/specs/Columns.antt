@@ -1,7 +1,7 @@
 -- The clock call over slots and columns of plain numbers: what each function under it promises.
 use mathlib.Core.Path.{_≡_}
 use Prim.Native.Nat.{ℕ, zero, suc, _+_, _*_, _<_, _≤_, min}
-use mathlib.Core.Bool.{Bool, true, false, cond, not, _||_}
+use mathlib.Core.Bool.{true, false, cond, not, _||_}
 use mathlib.Core.List.{List, [], _∷_, _++_, map}
 use lib.Dec.{leb, ltb, eqb}
 use lib.ListN.{length, take, getD}
@@ -13,15 +13,6 @@ use Rattle.rules.specs.Bytes.{bytes}
 use Rattle.calls.specs.Slots.{entryOf}
 
 -- what the slots have, column by column
-unfoldable pub stoppedOf : List (List ℕ) → List Bool
-stoppedOf w = map (λ r. entryOf r .cancelled) w
-
-unfoldable pub beginsOf : List (List ℕ) → List ℕ
-beginsOf w = map (λ r. entryOf r .begins) w
-
-unfoldable pub controlsOf : List (List ℕ) → List ℕ
-controlsOf w = map (λ r. entryOf r .event .controls) w
-
 unfoldable pub primaciesOf : List Program → List (List ℕ) → List ℕ
 primaciesOf ps w = map (λ r. programAt ps (entryOf r .event .program) .primacy) w
 
@@ -35,33 +26,39 @@ idsOf w = map (λ r. idOf (entryOf r .event)) w
 abbrev pub Numbered : ℕ → List (List ℕ) → Type 0
 Numbered n w = (k : ℕ) → k < n → entryOf (getD w k []) .event .program < 8
 
--- two columns that are worked out for the first n slots: effective end and held mask
-pub record Dated (n : ℕ) (w : List (List ℕ)) (ends held : List ℕ) : Type 0 where
-  pub long : (length ends ≡ 48) × (length held ≡ 48)
-  pub dated : (k : ℕ) → k < n → getD ends k 0 ≡ endOf (entryOf (getD w k []))
+-- none of the events of the first n slots is cancelled
+abbrev pub Running : ℕ → List (List ℕ) → Type 0
+Running n w = (k : ℕ) → k < n → entryOf (getD w k []) .cancelled ≡ false
+
+-- the columns that a moment looks at, for the first n slots: effective start and end, the controls that it carries, held mask
+pub record Dated (n : ℕ) (w : List (List ℕ)) (begins ends carried held : List ℕ) : Type 0 where
+  pub long : (length begins ≡ 48) × (length ends ≡ 48) × (length carried ≡ 48) × (length held ≡ 48)
+  pub from : (k : ℕ) → k < n → getD begins k 0 ≡ entryOf (getD w k []) .begins
+  pub till : (k : ℕ) → k < n → getD ends k 0 ≡ endOf (entryOf (getD w k []))
+  pub controls : (k : ℕ) → k < n → getD carried k 0 ≡ entryOf (getD w k []) .event .controls
   pub masks : (k : ℕ) → k < n → getD held k 0 ≡ entryOf (getD w k []) .held
 
--- `claim` of the fields that it looks at
-unfoldable pub claimOf : ℕ → Bool → ℕ → ℕ → ℕ → ℕ → ℕ
-claimOf t stopped end begins controls held = cond (stopped || leb end t || ltb t begins) 0 (cond (eqb begins t) controls held)
+-- `claim` of the fields that it looks at, of an event that is not cancelled
+unfoldable pub claimOf : ℕ → ℕ → ℕ → ℕ → ℕ → ℕ
+claimOf t begins end carried held = cond (leb end t || ltb t begins) 0 (cond (eqb begins t) carried held)
 
--- `codeAt` of the fields that it looks at
-unfoldable pub codeOf : ℕ → Bool → ℕ → ℕ → ℕ → ℕ → ℕ
-codeOf t stopped end begins held kept =
-    cond (stopped || ltb end t || ltb t begins) 0
+-- `codeAt` of the fields that it looks at, of an event that is not cancelled
+unfoldable pub codeOf : ℕ → ℕ → ℕ → ℕ → ℕ → ℕ
+codeOf t begins end held kept =
+    cond (ltb end t || ltb t begins) 0
     (cond (eqb end t) (cond (eqb held 0) 0 3)
     (cond (eqb begins t) (cond (eqb kept 0) 7 2)
     (cond (eqb held 0 || not (eqb kept 0)) 0 7)))
 
 -- each of the first n claims what its fields say
-pub record Claims (t n : ℕ) (stopped : List Bool) (ends begins controls held claims : List ℕ) : Type 0 where
+pub record Claims (t n : ℕ) (begins ends carried held claims : List ℕ) : Type 0 where
   pub size : length claims ≡ 48
-  pub each : (k : ℕ) → k < n → getD claims k 0 ≡ claimOf t (getD stopped k false) (getD ends k 0) (getD begins k 0) (getD controls k 0) (getD held k 0)
+  pub each : (k : ℕ) → k < n → getD claims k 0 ≡ claimOf t (getD begins k 0) (getD ends k 0) (getD carried k 0) (getD held k 0)
 
 -- and gives the code that they say
-pub record Codes (t n : ℕ) (stopped : List Bool) (ends begins held kept codes : List ℕ) : Type 0 where
+pub record Codes (t n : ℕ) (begins ends held kept codes : List ℕ) : Type 0 where
   pub size : length codes ≡ 48
-  pub each : (k : ℕ) → k < n → getD codes k 0 ≡ codeOf t (getD stopped k false) (getD ends k 0) (getD begins k 0) (getD held k 0) (getD kept k 0)
+  pub each : (k : ℕ) → k < n → getD codes k 0 ≡ codeOf t (getD begins k 0) (getD ends k 0) (getD held k 0) (getD kept k 0)
 
 -- each code that one of the first n gives is in the set
 abbrev pub Gives : ℕ → List ℕ → ℕ → Type 0

@@ -4,6 +4,7 @@ ghost use Prim.Native.Nat.{_≤_};
 ghost use lib.ListN.{length};
 ghost use Rattle.rules.specs.Records.{mostEvents, lastClock};
 ghost use Rattle.calls.specs.Slots.{scheduleOf, Ready};
+ghost use Rattle.calls.specs.Columns.{Running};
 ghost use Rattle.calls.specs.Live.{slotsAt, Placed};
 ghost use Rattle.calls.specs.Advanced.{Passes, Advances};
 use crate::clock;
@@ -26,29 +27,29 @@ fn moments(
     rows: &mut [u8; 1632],
     held: &mut [u32; 48],
 ) -> usize
-    requires { ⌜ (length (now slots) ≡ mostEvents) × Placed (d .count) (now places) × Ready d (slotsAt (now slots) (now places)) ⌝ }
+    requires { ⌜ (length (now slots) ≡ mostEvents) × Placed (d .count) (now places) × Ready d (slotsAt (now slots) (now places)) × Running (d .count) (slotsAt (now slots) (now places)) ⌝ }
     requires { ⌜ (d .clock ≤ to) × (to ≤ lastClock) × (length (now rows) ≡ 1632) × (length (now held) ≡ 48) ⌝ }
     ensures { λ r. ⌜ Passes (scheduleOf d (slotsAt (now (slots .entry)) (now (places .entry)))) to (now (rows .exit)) r (now (held .exit)) ⌝ }
 {
     let n = d.count;
+    let from = d.clock;
     let programs = d.programs;
+    let mut begins = [0u64; 48];
     let mut ends = [0u64; 48];
-    clock::columns_of(slots, places, n, &mut ends, held);
+    let mut carried = [0u32; 48];
+    clock::columns_of(slots, places, n, &mut begins, &mut ends, &mut carried, held);
     let mut kept = [0u32; 48];
     let mut codes = [0u8; 48];
-    let mut now = d.clock;
+    let limit = to + 1;
+    let mut t = clock::next_moment(from, limit, &begins, &ends, n);
     let mut at = 0;
-    loop {
-        let t = clock::next_moment(now, to + 1, slots, places, &ends, n);
-        if to < t {
-            break;
-        }
-        let shared = clock::claims_at(t, slots, places, &ends, held, n, &mut kept);
-        settle::settle(&mut kept, shared, programs, slots, places, n);
-        let given = clock::codes_at(t, slots, places, &ends, held, &kept, n, &mut codes);
+    while t < limit {
+        let claimed = clock::claims_at(t, limit, &begins, &ends, &carried, held, n, &mut kept);
+        settle::settle(&mut kept, claimed.shared, programs, slots, places, n);
+        let given = clock::codes_at(t, &begins, &ends, held, &kept, n, &mut codes);
         at = clock::rows_at(rows, at, t, slots, places, &codes, n, given);
         *held = kept;
-        now = t;
+        t = claimed.next;
     }
     at
 }

@@ -1,28 +1,28 @@
-// A moment, over slots and columns of plain numbers. Nothing is dropped on the way: an event that has ended claims nothing and gives no row, so it is enough to
-// drop it after the last moment.
+// A moment, over columns of plain numbers: what the events at the first n places have. Nothing is dropped on the way: an event that has ended claims nothing and gives no
+// row, so it is enough to drop it after the last moment. None of these events is cancelled.
 ghost use mathlib.Core.Path.{_≡_};
 ghost use Prim.Native.Nat.{ℕ, _+_, _≤_, _<_, min};
-ghost use mathlib.Core.Bool.{false};
-ghost use mathlib.Core.List.{[]};
 ghost use lib.ListN.{length, getD};
 ghost use Rattle.rules.specs.Records.{mostEvents, has};
 ghost use Rattle.rules.specs.Bytes.{big};
-ghost use Rattle.calls.specs.Columns.{stoppedOf, beginsOf, controlsOf, idsOf, claimOf, codeOf, Dated, Claims, Codes, Gives, nearest, nextOf, rowIf, codedRows, momentRows, Put, Written};
+ghost use Rattle.calls.specs.Columns.{idsOf, claimOf, codeOf, Dated, Claims, Codes, Gives, nearest, nextOf, rowIf, codedRows, momentRows, Put, Written};
 ghost use Rattle.calls.specs.Live.{slotsAt, Placed};
 ghost use Rattle.calls.specs.Settled.{Contested};
 use crate::held;
 use crate::settle;
 
-// The effective end and the held mask of each of the events at the first n places.
+// What a moment looks at of each of the events at the first n places: effective start and end, the controls that it carries, held mask.
 pub(crate) fn columns_of(
     slots: &[[u64; 13]; 48],
     places: &[u8; 48],
     n: usize,
+    begins: &mut [u64; 48],
     ends: &mut [u64; 48],
+    carried: &mut [u32; 48],
     held: &mut [u32; 48],
 )
-    requires { ⌜ (n ≤ 48) × (length (now slots) ≡ 48) × Placed n (now places) × (length (now ends) ≡ 48) × (length (now held) ≡ 48) ⌝ }
-    ensures { λ _. ⌜ Dated n (slotsAt (now (slots .entry)) (now (places .entry))) (now (ends .exit)) (now (held .exit)) ⌝ }
+    requires { ⌜ (n ≤ 48) × (length (now slots) ≡ 48) × Placed n (now places) × (length (now begins) ≡ 48) × (length (now ends) ≡ 48) × (length (now carried) ≡ 48) × (length (now held) ≡ 48) ⌝ }
+    ensures { λ _. ⌜ Dated n (slotsAt (now (slots .entry)) (now (places .entry))) (now (begins .exit)) (now (ends .exit)) (now (carried .exit)) (now (held .exit)) ⌝ }
 {
     let mut i = 0;
     while i < n {
@@ -30,41 +30,36 @@ pub(crate) fn columns_of(
         let h = held::entry_of(slot);
         let e = h.event;
         let end = e.effective_end();
+        begins[i] = h.begins;
         ends[i] = end.time;
+        carried[i] = e.controls;
         held[i] = h.held;
         i += 1;
     }
 }
 
 // What an event claims at moment t.
-pub(crate) fn claim_of(
-    t: u64,
-    stopped: bool,
-    end: u64,
-    begins: u64,
-    controls: u32,
-    held: u32,
-) -> u32
-    ensures { λ r. ⌜ r ≡ claimOf t stopped end begins controls held ⌝ }
+fn claim_of(t: u64, begins: u64, end: u64, carried: u32, held: u32) -> u32
+    ensures { λ r. ⌜ r ≡ claimOf t begins end carried held ⌝ }
 {
-    if stopped | (end <= t) | (t < begins) {
+    if (end <= t) | (t < begins) {
         return 0;
     }
     if begins == t {
-        return controls;
+        return carried;
     }
     held
 }
 
 // The code that an event gives at moment t; `held` is what it held a second before, `kept` what it holds at t. The first test is for speed: most events do not
 // begin then, and hold nothing or go on holding.
-pub(crate) fn code_of(t: u64, stopped: bool, end: u64, begins: u64, held: u32, kept: u32) -> u8
-    ensures { λ r. ⌜ r ≡ codeOf t stopped end begins held kept ⌝ }
+fn code_of(t: u64, begins: u64, end: u64, held: u32, kept: u32) -> u8
+    ensures { λ r. ⌜ r ≡ codeOf t begins end held kept ⌝ }
 {
     if (begins != t) & ((held == 0) | ((end != t) & (kept != 0))) {
         return 0;
     }
-    if stopped | (end < t) | (t < begins) {
+    if (end < t) | (t < begins) {
         return 0;
     }
     if end == t {
@@ -86,7 +81,7 @@ pub(crate) fn code_of(t: u64, stopped: bool, end: u64, begins: u64, held: u32, k
 }
 
 // x if it lies between the clock and the best so far.
-pub(crate) fn nearer(clock: u64, x: u64, best: u64) -> u64
+fn nearer(clock: u64, x: u64, best: u64) -> u64
     ensures { λ r. ⌜ r ≡ nearest clock x best ⌝ }
 {
     if x <= clock {
@@ -108,102 +103,86 @@ fn sooner(a: u64, b: u64) -> u64
     a
 }
 
-// The next moment at which one of those at the first n places begins or ends, `limit` if there is none before it. Each event's own is found first, so that no event waits for the
-// one before it.
+// The next moment after the clock at which an event begins or ends, `limit` if there is none before it.
+fn own_next(clock: u64, limit: u64, begins: u64, end: u64) -> u64
+    ensures { λ r. ⌜ r ≡ nearest clock begins (nearest clock end limit) ⌝ }
+{
+    nearer(clock, begins, nearer(clock, end, limit))
+}
+
+// The same of the first n. Each event's own is found first, so that no event waits for the one before it.
 pub(crate) fn next_moment(
     clock: u64,
     limit: u64,
-    slots: &[[u64; 13]; 48],
-    places: &[u8; 48],
+    begins: &[u64; 48],
     ends: &[u64; 48],
     n: usize,
 ) -> u64
-    requires { ⌜ (n ≤ 48) × (length (now slots) ≡ 48) × Placed n (now places) ⌝ }
-    ensures { λ r. ⌜ r ≡ nextOf clock limit n (beginsOf (slotsAt (now (slots .entry)) (now (places .entry)))) (now (ends .entry)) ⌝ }
+    requires { ⌜ n ≤ 48 ⌝ }
+    ensures { λ r. ⌜ r ≡ nextOf clock limit n (now (begins .entry)) (now (ends .entry)) ⌝ }
 {
-    let mut t = limit;
+    let mut next = limit;
     let mut i = 0;
     while i < n {
-        t = sooner(
-            t,
-            nearer(
-                clock,
-                slots[places[i] as usize][10],
-                nearer(clock, ends[i], limit),
-            ),
-        );
+        next = sooner(next, own_next(clock, limit, begins[i], ends[i]));
         i += 1;
     }
-    t
+    next
 }
 
-// What the event in a slot claims at moment t.
-fn claim_at(t: u64, slots: &[[u64; 13]; 48], i: usize, end: u64, held: u32) -> u32
-    requires { ⌜ (i < 48) × (length (now slots) ≡ 48) ⌝ }
-    ensures { λ r. ⌜ r ≡ claimOf t (getD (stoppedOf (now (slots .entry))) i false) end (getD (beginsOf (now (slots .entry))) i 0) (getD (controlsOf (now (slots .entry))) i 0) held ⌝ }
-{
-    claim_of(
-        t,
-        slots[i][12] == 1,
-        end,
-        slots[i][10],
-        (slots[i][2] % 0x1_0000_0000) as u32,
-        held,
-    )
+// What a pass over the claims of a moment finds: the controls that two or more claim, and the next moment.
+pub(crate) struct Claimed {
+    pub(crate) shared: u32,
+    pub(crate) next: u64,
 }
 
-// What each of those at the first n places claims at moment t; the controls that two or more of them claim.
+// What each of the first n claims at moment t, and in the same pass what `Claimed` has; the next moment is `limit` if there is none before it.
 pub(crate) fn claims_at(
     t: u64,
-    slots: &[[u64; 13]; 48],
-    places: &[u8; 48],
+    limit: u64,
+    begins: &[u64; 48],
     ends: &[u64; 48],
+    carried: &[u32; 48],
     held: &[u32; 48],
     n: usize,
     claims: &mut [u32; 48],
-) -> u32
-    requires { ⌜ (n ≤ 48) × (length (now slots) ≡ 48) × Placed n (now places) × (length (now claims) ≡ 48) ⌝ }
-    ensures { λ r. ⌜ Claims t n (stoppedOf (slotsAt (now (slots .entry)) (now (places .entry)))) (now (ends .entry)) (beginsOf (slotsAt (now (slots .entry)) (now (places .entry)))) (controlsOf (slotsAt (now (slots .entry)) (now (places .entry)))) (now (held .entry)) (now (claims .exit)) × Contested (now (claims .exit)) n r ⌝ }
+) -> Claimed
+    requires { ⌜ (n ≤ 48) × (length (now claims) ≡ 48) ⌝ }
+    ensures { λ r. ⌜ Claims t n (now (begins .entry)) (now (ends .entry)) (now (carried .entry)) (now (held .entry)) (now (claims .exit))
+        × Contested (now (claims .exit)) n (r .shared) × (r .next ≡ nextOf t limit n (now (begins .entry)) (now (ends .entry))) ⌝ }
 {
     let mut seen = 0;
-    let mut twice = 0;
+    let mut shared = 0;
+    let mut next = limit;
     let mut i = 0;
     while i < n {
-        let m = claim_at(t, slots, places[i] as usize, ends[i], held[i]);
+        let m = claim_of(t, begins[i], ends[i], carried[i], held[i]);
         claims[i] = m;
-        twice |= seen & m;
+        shared |= seen & m;
         seen |= m;
+        next = sooner(next, own_next(t, limit, begins[i], ends[i]));
         i += 1;
     }
-    twice
+    Claimed { shared, next }
 }
 
-// The code that the event in a slot gives at moment t.
-fn code_at(t: u64, slots: &[[u64; 13]; 48], i: usize, end: u64, held: u32, kept: u32) -> u8
-    requires { ⌜ (i < 48) × (length (now slots) ≡ 48) ⌝ }
-    ensures { λ r. ⌜ (r ≡ codeOf t (getD (stoppedOf (now (slots .entry))) i false) end (getD (beginsOf (now (slots .entry))) i 0) held kept) × (r < 32) ⌝ }
-{
-    code_of(t, slots[i][12] == 1, end, slots[i][10], held, kept)
-}
-
-// The code that each of those at the first n places gives at moment t; the set of the codes given.
+// The code that each of the first n gives at moment t; the set of the codes given.
 pub(crate) fn codes_at(
     t: u64,
-    slots: &[[u64; 13]; 48],
-    places: &[u8; 48],
+    begins: &[u64; 48],
     ends: &[u64; 48],
     held: &[u32; 48],
     kept: &[u32; 48],
     n: usize,
     codes: &mut [u8; 48],
 ) -> u32
-    requires { ⌜ (n ≤ 48) × (length (now slots) ≡ 48) × Placed n (now places) × (length (now codes) ≡ 48) ⌝ }
-    ensures { λ r. ⌜ Codes t n (stoppedOf (slotsAt (now (slots .entry)) (now (places .entry)))) (now (ends .entry)) (beginsOf (slotsAt (now (slots .entry)) (now (places .entry)))) (now (held .entry)) (now (kept .entry)) (now (codes .exit)) × Gives n (now (codes .exit)) r ⌝ }
+    requires { ⌜ (n ≤ 48) × (length (now codes) ≡ 48) ⌝ }
+    ensures { λ r. ⌜ Codes t n (now (begins .entry)) (now (ends .entry)) (now (held .entry)) (now (kept .entry)) (now (codes .exit)) × Gives n (now (codes .exit)) r ⌝ }
 {
     let mut given = 0;
     let mut i = 0;
     while i < n {
-        let k = code_at(t, slots, places[i] as usize, ends[i], held[i], kept[i]);
+        let k = code_of(t, begins[i], ends[i], held[i], kept[i]);
         codes[i] = k;
         given |= 1 << (k as u32);
         i += 1;

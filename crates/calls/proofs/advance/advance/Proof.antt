@@ -2,7 +2,7 @@
 use mathlib.Core.Path.{refl}
 use borrow.Author.Needs.{needs}
 use native.Mathlib.Omega.{arith}
-use Rattle.calls.proofs.Merging.{placed, ready, merged}
+use Rattle.calls.proofs.Merging.{placed, ready, running, merged}
 use Rattle.calls.proofs.advance.advance.Statement.{statement}
 use Rattle.calls.proofs.advance.advance.Tie as tie
 
@@ -10,7 +10,7 @@ moments-requires : tie.Need-moments-requires
 moments-requires c κs =
     let pre = c .before .before .before .before .before .before .before .pre in
     let picked = c .before .before .before .before .pick .ensures in
-    ((pre .0 .size, placed (pre .0) picked, ready (pre .0) picked), (pre .1 .0, pre .1 .1, pre .1 .2, refl))
+    ((pre .0 .size, placed (pre .0) picked, ready (pre .0) picked, running (pre .0) picked), (pre .1 .0, pre .1 .1, pre .1 .2, refl))
 
 give-back-requires : tie.Need-give-back-requires
 give-back-requires c κs =

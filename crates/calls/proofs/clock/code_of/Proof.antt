@@ -24,7 +24,7 @@ returns : tie.Need-returns
 unfolding codeOf
 returns c =
     let a = c .before .args in
-    quiet (a .stopped || ltb (a .end) (a .t) || ltb (a .t) (a .begins)) (eqb (a .end) (a .t)) (eqb (a .begins) (a .t)) (eqb (a .held) 0) (eqb (a .kept) 0) (c .if1 .taken)
+    quiet (ltb (a .end) (a .t) || ltb (a .t) (a .begins)) (eqb (a .end) (a .t)) (eqb (a .begins) (a .t)) (eqb (a .held) 0) (eqb (a .kept) 0) (c .if1 .taken)
 
 returns-2 : tie.Need-returns-2
 unfolding codeOf
