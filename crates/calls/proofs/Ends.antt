@@ -1,13 +1,19 @@
--- Where a line ends: at its line feed, or where the text ends.
+-- Where a line ends: at its line feed, or where the text ends. A frame's line has no line feed in it.
 use mathlib.Core.Path.{_≡_, refl, sym, ap, _∙_}
-use Prim.Native.Nat.{ℕ, zero, suc, _+_, _-_, _<_, _≤_}
+use mathlib.Core.Logic.{_⊎_, inl, inr}
+use Prim.Native.Nat.{ℕ, zero, suc, _+_, _-_, _/_, _%_, _<_, _≤_}
 use mathlib.Core.Bool.{Bool, true, false, cond}
-use mathlib.Core.List.{List, [], _∷_}
+use mathlib.Core.List.{List, [], _∷_, _++_}
 use native.Mathlib.Omega.{arith}
 use borrow.Author.Tests.{eq-eqb, ne-eqb}
-use lib.Dec.{eqb}
-use lib.ListN.{length, getD, take, drop, length-drop, drop-of-length-le}
-use lib.Seq.{drop-cons}
+use lib.Dec.{ltb, eqb}
+use lib.ListN.{length, getD, take, drop, length-drop, drop-of-length-le, take-append-drop}
+use lib.Seq.{drop-cons, length-take-le, getD-drop}
+use Rattle.rules.specs.declared.Frame.{Frame}
+use Rattle.rules.specs.declared.Line.the-variants.{Good}
+use Rattle.rules.specs.Frames.{paired, unhex, isFrame, frameOf, lineOf}
+use Rattle.frame.specs.Encoded.{hex, hexed, frameBytes, encoded}
+use Rattle.frame.proofs.RoundTrips.{encoded-line}
 use Rattle.calls.specs.Lines.{endedOf, upTo}
 
 -- the first line that ends, and those after it
@@ -55,3 +61,38 @@ module _ (l : List ℕ) (i : ℕ) where
   pub up-to-end : length l ≤ i → upTo (drop i l) ≡ 0
   unfolding upTo
   up-to-end h = rw (drop-of-length-le l {i = i} h)
+
+-- no digit is a line feed, so behind pairs of digits it is the first
+no-feed : (d : ℕ) → eqb (hex d) 10 ≡ false
+unfolding hex
+no-feed d = by (ltb d 10)
+  where
+    by : (t : Bool) → eqb (cond t (d + 48) (d + 55)) 10 ≡ false
+    by true = ne-eqb (d + 48) 10 (λ e. omega arith)
+    by false = ne-eqb (d + 55) 10 (λ e. omega arith)
+
+up-to-pairs : (b rest : List ℕ) → upTo (hexed b ++ (10 ∷ rest)) ≡ length (hexed b)
+unfolding upTo hexed
+up-to-pairs [] rest = refl
+up-to-pairs (x ∷ b) rest = rw (no-feed (x / 16), no-feed (x % 16), up-to-pairs b rest)
+
+-- a frame's line is such pairs
+up-to-frame : (l : List ℕ) (n : ℕ) → n < length l → getD l n 0 ≡ 10 → (f : Frame) → lineOf (take n l) ≡ Good f → upTo l ≡ n
+unfolding encoded
+up-to-frame l n h e f g =
+    let front : take n l ≡ hexed (frameBytes f) = sym (encoded-line (take n l) f g) in
+    let all : l ≡ hexed (frameBytes f) ++ (10 ∷ drop (suc n) l) = sym (take-append-drop n l) ∙ rw (drop-cons l n 0 h, e, front) in
+    ap upTo all ∙ up-to-pairs (frameBytes f) (drop (suc n) l) ∙ sym (ap length front) ∙ length-take-le n l (omega arith)
+
+-- where a frame is decoded before a line feed its line ends; no bytes are no frame
+pub end-of-frame : (l : List ℕ) (from end : ℕ) → from ≤ end → (end ≡ from) ⊎ ((end < length l) × (getD l end 0 ≡ 10)) → (f : Frame) → lineOf (take (end - from) (drop from l)) ≡ Good f
+    → end ≡ from + upTo (drop from l)
+unfolding lineOf paired unhex frameOf isFrame
+end-of-frame l from end h (inl e) f g =
+    let n : end - from ≡ 0 = omega arith in
+    let z : _≡_ {A = ℕ} 0 1 = cc (rw n at g) in
+    absurd (omega arith)
+end-of-frame l from end h (inr (m, e)) f g =
+    let n : from + (end - from) ≡ end = omega arith in
+    let feed : getD (drop from l) (end - from) 0 ≡ 10 = rw (getD-drop, n) e in
+    omega (arith, up-to-frame (drop from l) (end - from) (omega (arith, length-drop from l)) feed f g)

@@ -102,9 +102,9 @@ module _ {first : Schedule} {lines old : List ℕ} {s : Schedule} {from at : ℕ
       unfolding runs
       running-stop g = running-all (rw (next, lt-leb mostText (length old - at) g))
 
-      pub running-more : {told : Telling} {w : List (List ℕ)} {rows newer : List ℕ} → mostText ≤ length old - at → Says s l new at told w rows newer
+      pub running-more : {told : Telling} {w : List (List ℕ)} {rows newer : List ℕ} → mostText ≤ length old - at → Says s (lineOf l) new at told w rows newer
           → Running first lines old (scheduleOf (told .head) w) (end + 1) (told .behind) newer
-      unfolding runs
+      unfolding runs tell
       running-more {told} {w} {rows} {newer} g says =
           let t = tell s l .text in
           let short = tell-length s l in

@@ -21,8 +21,8 @@ use Rattle.rules.specs.Sound.{sound}
 use Rattle.rules.specs.Refusals.{find}
 use Rattle.rules.specs.Calls.{Value, Ranked, Call, addProgram, deliver, cancel, setClock, ask, list, cancelCode, received, bestDefault, defaultFor, holderIn, answerFor, counted, numberOf, valueOf, does, refusal, accepts, accepted, refused, Outcome, call}
 use Rattle.rules.specs.declared.Line.the-variants.{Good, Bad}
-use Rattle.rules.specs.Frames.{lineOf, frameCall}
-use Rattle.rules.specs.Printed.{refusedText, threeText, codeText, rowsText, askText, frameText, room, tellFrame, tell}
+use Rattle.rules.specs.Frames.{frameCall}
+use Rattle.rules.specs.Printed.{refusedText, threeText, codeText, rowsText, askText, frameText, room, tellFrame}
 use Rattle.rules.proofs.Tests.{first-not}
 use Rattle.rules.proofs.SoundState.{sound-view}
 use Rattle.rules.proofs.Bound.{few-rows}
@@ -100,15 +100,6 @@ module _ {s : Schedule} {r : Acted} {w : List (List ℕ)} {rows : List ℕ} wher
         ap₂ (λ n b. rowsText n 0 b) v q ∙ rows-front rows (call s (setClock t room) .bytes) (counted (call s (setClock t room) .value)) (a .written room refl);
   }
 
-module _ (s : Schedule) (l : List ℕ) where
-  pub tell-bad : Bad ≡ lineOf l → tell s l ≡ record { state = s; text = refusedText 1 }
-  unfolding tell
-  tell-bad e = rw (← e)
-
-  pub tell-good : (f : Frame) → Good f ≡ lineOf l → tell s l ≡ tellFrame s f
-  unfolding tell
-  tell-good f e = rw (← e)
-
 -- the count of a call that was accepted, on a schedule that is sound then, or of none
 from-done : (s : Schedule) (c : Call) → (sound s ≡ true → counted (does (view s) c .value) ≤ 96) → counted (call s c .value) ≤ 96
 unfolding call refusal
@@ -155,30 +146,29 @@ call-counted s (list r) = from-done s (list r) (λ e. omega (arith, sound-view s
 
 -- A line.
 
-module _ (s : Schedule) (l : List ℕ) {old new : List ℕ} {at : ℕ} {w : List (List ℕ)} {rows : List ℕ} (fits : at + mostText ≤ length old) where
-  pub says-bad : (r : Telling) → Bad ≡ lineOf l → length w ≡ mostEvents → r .head .count ≤ mostEvents → length rows ≡ 1632 → scheduleOf (r .head) w ≡ s
-      → Stands old at (ifRoom 29 at old (refusedText 1)) new (r .behind) → Says s l old at r w rows new
-  says-bad r e size count long same p = record {
+module _ (s : Schedule) {old new : List ℕ} {at : ℕ} {w : List (List ℕ)} {rows : List ℕ} (fits : at + mostText ≤ length old) where
+  pub says-bad : (r : Telling) → length w ≡ mostEvents → r .head .count ≤ mostEvents → length rows ≡ 1632 → scheduleOf (r .head) w ≡ s
+      → Stands old at (ifRoom 29 at old (refusedText 1)) new (r .behind) → Says s Bad old at r w rows new
+  says-bad r size count long same p = record {
     size = size;
     count = count;
     long = long;
-    state = rw (tell-bad s l e) same;
-    text = rw (tell-bad s l e) (rw (le-leb (at + 29) (length old) (omega arith)) at p);
+    state = same;
+    text = rw (le-leb (at + 29) (length old) (omega arith)) at p;
   }
 
-  pub says-good : (f : Frame) → Good f ≡ lineOf l → (a : Acted) → ActsOn s f a w rows → (behind : ℕ)
+  pub says-good : (f : Frame) (a : Acted) → ActsOn s f a w rows → (behind : ℕ)
       → ((o : Outcome) → o .number ≡ numberOf (a .answer) → o .value ≡ valueOf (a .answer) → o .bytes ≡ rows
       → Stands old at (cond (eqb (length rows) 1632 && leb (counted (o .value)) 96) (ifRoom mostText at old (cond (eqb (o .number) 0) (frameText (s .clock) f o) (refusedText (o .number)))) []) new behind)
-      → Says s l old at (record { head = a .head; behind = behind }) w rows new
+      → Says s (Good f) old at (record { head = a .head; behind = behind }) w rows new
   unfolding tellFrame
-  says-good f e a t behind told =
+  says-good f a t behind told =
       let o : Outcome = record { number = numberOf (a .answer); value = valueOf (a .answer); state = s; bytes = rows; records = [] } in
       let few : counted (valueOf (a .answer)) ≤ 96 = rw (t .value) (call-counted s (frameCall f room)) in
       record {
         size = t .size;
         count = t .count;
         long = t .long;
-        state = rw (tell-good s l f e) (t .state);
-        text = rw (tell-good s l f e)
-            (rw (eq-eqb (length rows) 1632 (t .long), le-leb (counted (valueOf (a .answer))) 96 few, le-leb (at + mostText) (length old) fits, t .text (s .clock) o refl refl, t .number) at (told o refl refl refl));
+        state = t .state;
+        text = rw (eq-eqb (length rows) 1632 (t .long), le-leb (counted (valueOf (a .answer))) 96 few, le-leb (at + mostText) (length old) fits, t .text (s .clock) o refl refl, t .number) at (told o refl refl refl);
       }

@@ -5,10 +5,11 @@ use mathlib.Core.List.{List}
 use lib.ListN.{length, take}
 use Rattle.rules.specs.declared.Schedule.{Schedule}
 use Rattle.rules.specs.declared.Frame.{Frame}
+use Rattle.rules.specs.declared.Line.{Line}
 use Rattle.rules.specs.Records.{mostEvents}
 use Rattle.rules.specs.Calls.{Outcome, numberOf, valueOf, call}
 use Rattle.rules.specs.Frames.{frameCall}
-use Rattle.rules.specs.Printed.{room, frameText, tell}
+use Rattle.rules.specs.Printed.{room, frameText, tellLine}
 use Rattle.text.specs.Texts.{Stands}
 use Rattle.calls.specs.declared.Acted.{Acted}
 use Rattle.calls.specs.declared.lines.Telling.{Telling}
@@ -24,10 +25,10 @@ pub record ActsOn (s : Schedule) (f : Frame) (r : Acted) (w : List (List ℕ)) (
   pub state : scheduleOf (r .head) w ≡ call s (frameCall f room) .state
   pub text : (clock : ℕ) (o : Outcome) → o .value ≡ valueOf (r .answer) → o .bytes ≡ rows → frameText clock f o ≡ frameText clock f (call s (frameCall f room))
 
--- a line: the schedule, and its text in the buffer from `at` on
-pub record Says (s : Schedule) (line old : List ℕ) (at : ℕ) (r : Telling) (w : List (List ℕ)) (rows new : List ℕ) : Type 0 where
+-- a line, by what it stands for: the schedule, and its text in the buffer from `at` on
+pub record Says (s : Schedule) (line : Line) (old : List ℕ) (at : ℕ) (r : Telling) (w : List (List ℕ)) (rows new : List ℕ) : Type 0 where
   pub size : length w ≡ mostEvents
   pub count : r .head .count ≤ mostEvents
   pub long : length rows ≡ 1632
-  pub state : scheduleOf (r .head) w ≡ tell s line .state
-  pub text : Stands old at (tell s line .text) new (r .behind)
+  pub state : scheduleOf (r .head) w ≡ tellLine s line .state
+  pub text : Stands old at (tellLine s line .text) new (r .behind)

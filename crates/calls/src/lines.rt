@@ -1,9 +1,11 @@
 // Frames acted on, and lines found in a text, on sound slots.
 ghost use mathlib.Core.Path.{_≡_};
-ghost use Prim.Native.Nat.{_+_, _≤_};
+ghost use mathlib.Core.Logic.{_⊎_};
+ghost use Prim.Native.Nat.{_+_, _-_, _<_, _≤_};
 ghost use mathlib.Core.Bool.{true};
-ghost use lib.ListN.{length, drop};
+ghost use lib.ListN.{length, getD, take, drop};
 ghost use Rattle.rules.specs.Sound.{sound};
+ghost use Rattle.rules.specs.Frames.{lineOf};
 ghost use Rattle.text.specs.Texts.{mostText};
 ghost use Rattle.calls.specs.Slots.{scheduleOf, Ready};
 ghost use Rattle.calls.specs.Says.{ActsOn, Says};
@@ -53,27 +55,65 @@ fn end_of(text: &[u8], from: usize) -> usize
     i
 }
 
+// Frames and image. Where the line that begins at `from` ends if it is a frame's, whose kind tells how long it is; `from` if no line feed stands there.
+fn likely_end(text: &[u8], from: usize) -> usize
+    requires { ⌜ from ≤ length (now text) ⌝ }
+    ensures { λ r. ⌜ (from ≤ r) × (r ≤ length (now (text .entry))) × ((r ≡ from) ⊎ ((r < length (now (text .entry))) × (getD (now (text .entry)) r 0 ≡ 10))) ⌝ }
+{
+    let n = frame::length_by_kind(&text[from..]);
+    if n < text.len() - from {
+        let end = from + n;
+        if text[end] == b'\n' {
+            return end;
+        }
+    }
+    from
+}
+
+// A line of a text: where it ends, and what it stands for.
+struct NextLine {
+    end: usize,
+    line: Line,
+}
+
+// Frames and image. The line that begins at `from`. A frame's line has no line feed in it, so only a line that is no frame is searched for one.
+fn next_line(text: &[u8], from: usize) -> NextLine
+    requires { ⌜ from ≤ length (now text) ⌝ }
+    ensures { λ r. ⌜ (r .end ≡ from + upTo (drop from (now (text .entry)))) × (r .line ≡ lineOf (take (r .end - from) (drop from (now (text .entry))))) ⌝ }
+{
+    let likely = likely_end(text, from);
+    let decoded = frame::decode(&text[from..likely]);
+    if let Line::Good(_) = decoded {
+        return NextLine {
+            end: likely,
+            line: decoded,
+        };
+    }
+    let end = end_of(text, from);
+    let line = frame::decode(&text[from..end]);
+    NextLine { end, line }
+}
+
 // What a line leaves besides the slots: the rest of the schedule, and the place behind its text.
 struct Telling {
     head: Head,
     behind: usize,
 }
 
-// Frames and image, the program. Acts on a line and writes its text from `at` on.
+// Frames and image, the program. Acts on what a line stands for and writes the line's text from `at` on.
 fn tell(
     d: Head,
     slots: &mut [[u64; 13]; 48],
-    line: &[u8],
+    line: Line,
     rows: &mut [u8; 1632],
     out: &mut [u8],
     at: usize,
 ) -> Telling
     requires { ⌜ Ready d (now slots) ⌝ }
     requires { ⌜ (length (now rows) ≡ 1632) × (at + mostText ≤ length (now out)) ⌝ }
-    ensures { λ r. ⌜ Says (scheduleOf d (now (slots .entry))) (now (line .entry)) (now (out .entry)) at r (now (slots .exit)) (now (rows .exit)) (now (out .exit)) ⌝ }
+    ensures { λ r. ⌜ Says (scheduleOf d (now (slots .entry))) line (now (out .entry)) at r (now (slots .exit)) (now (rows .exit)) (now (out .exit)) ⌝ }
 {
-    let decoded = frame::decode(line);
-    let Line::Good(f) = decoded else {
+    let Line::Good(f) = line else {
         let behind = text::refused(out, at, 1);
         return Telling { head: d, behind };
     };
@@ -97,14 +137,16 @@ pub(crate) fn run(s: Schedule, lines: &[u8], out: &mut [u8]) -> Ran
     let mut from = 0;
     let mut at = 0;
     while from < lines.len() {
-        let end = end_of(lines, from);
+        let found = next_line(lines, from);
+        let end = found.end;
         if end == lines.len() {
             break;
         }
         if out.len() - at < text::MOST {
             break;
         }
-        let told = tell(d, &mut slots, &lines[from..end], &mut rows, out, at);
+        let line = found.line;
+        let told = tell(d, &mut slots, line, &mut rows, out, at);
         at = told.behind;
         let next = told.head;
         d = next;

@@ -1,10 +1,10 @@
 // Lines of document 01 and the frames that they stand for: a decoder, an encoder, and that each undoes the other.
 ghost use mathlib.Core.Path.{_≡_};
-ghost use Prim.Native.Nat.{_<_};
-ghost use lib.ListN.{length};
+ghost use Prim.Native.Nat.{_*_, _<_};
+ghost use lib.ListN.{length, getD};
 ghost use Rattle.rules.specs.declared.Frame.{Frame};
 ghost use Rattle.rules.specs.declared.Line.the-variants.{Good, Bad};
-ghost use Rattle.rules.specs.Frames.{lineOf};
+ghost use Rattle.rules.specs.Frames.{unhex, lineOf};
 ghost use Rattle.frame.specs.Decoded.{sizeOf};
 ghost use Rattle.frame.specs.Encoded.{encoded, encodedInto, kindOf};
 
@@ -25,6 +25,13 @@ fn size_of(kind: u16) -> usize
         5 => 2,
         _ => 0,
     }
+}
+
+// Frames and image. How long the line of a frame is that begins like this one: its first pair is the kind; 0 if that is none.
+pub fn length_by_kind(line: &[u8]) -> usize
+    ensures { λ r. ⌜ r ≡ 2 * sizeOf (getD (unhex (now (line .entry))) 0 0) ⌝ }
+{
+    2 * size_of(digits::first(line))
 }
 
 // Frames and image. The frame that a line stands for. Its first pair is the kind, which tells how long it has to be.

@@ -28,23 +28,28 @@ loop-holds c =
     let r = ready (start .args .s) (c .head-of .result) _ (c .head-of .ensures) (c .before .take-apart .ensures) (start .pre) in
     (running-none _ (r .good) (start .args .lines .now) (start .args .out .now), r .size, r .count, refl)
 
-end-of-requires : tie.Need-end-of-requires Inv-loop μ-loop
-end-of-requires c κs = c .before .loop .inv .0 .within
-
 tell-requires : tie.Need-tell-requires Inv-loop μ-loop
 tell-requires c κs =
-    let l = c .before .before .before .before .before .before .before .before .loop in
-    let v = l .inv in
-    (record { size = v .1; count = v .2; good = v .0 .is-sound }, (v .3, omega (arith, c .before .before .before .before .if2 .left, running-size (v .0), v .0 .fits)))
+    let v = c .before .before .before .before .before .before .before .loop .inv in
+    (record { size = v .1; count = v .2; good = v .0 .is-sound }, (v .3, omega (arith, c .before .before .before .if2 .left, running-size (v .0), v .0 .fits)))
+
+-- the line feed stands within the text
+add-from : tie.Need-add-from Inv-loop μ-loop
+add-from c =
+    let e = c .before .before .before .before .before .before .before .before .before in
+    let l = e .before .before .loop in
+    let start = e .before .before .before .before .before .before .before .before in
+    omega (arith, start .good, c .before .before .before .before .before .before .before .before .if1 .left, e .next-line .ensures .0, end-within (start .args .lines .now) (l .from) (l .inv .0 .within))
 
 loop-again : tie.Need-loop-again Inv-loop μ-loop
 loop-again c =
-    let e = c .before .before .before .before .before .before .before .before .before .before in
+    let e = c .before .before .before .before .before .before .before .before .before in
     let l = e .before .before .loop in
     let a = e .before .before .before .before .before .before .before .before .args in
+    let n = e .next-line .ensures in
     let t = c .before .before .before .tell .ensures in
     let last = end-within (a .lines .now) (l .from) (l .inv .0 .within) in
-    (running-more (l .inv .0) (e .end-of .result) (e .end-of .ensures) (omega (arith, c .before .before .before .before .before .before .before .before .before .if1 .left, e .end-of .ensures, last)) (omega (arith, c .before .before .before .before .before .before .before .before .if2 .left, running-size (l .inv .0))) t, t .size, t .count, t .long)
+    (running-more (l .inv .0) (e .next-line .result .end) (n .0) (omega (arith, c .before .before .before .before .before .before .before .before .if1 .left, n .0, last)) (omega (arith, c .before .before .before .before .before .before .before .if2 .left, running-size (l .inv .0))) (rw (n .1) at t), t .size, t .count, t .long)
 
 returns : tie.Need-returns Inv-loop μ-loop
 returns c =
@@ -56,8 +61,8 @@ returns c =
     ⊎-elim
     (λ w. running-past v (w .left))
     (⊎-elim
-    (λ w. running-end v _ (w .1 .ensures) (omega (arith, w .2 .taken)))
-    (λ w. running-stop v _ (w .1 .ensures) (omega (arith, w .2 .left, w .1 .ensures, end-within (a .lines .now) (l .from) (v .within))) (omega (arith, w .3 .taken, running-size v))))
+    (λ w. running-end v _ (w .1 .ensures .0) (omega (arith, w .2 .taken)))
+    (λ w. running-stop v _ (w .1 .ensures .0) (omega (arith, w .2 .left, w .1 .ensures .0, end-within (a .lines .now) (l .from) (v .within))) (omega (arith, w .3 .taken, running-size v))))
     (c .before .before .loop-test .came) in
     (λ i. record { number = 0; value = count (l .at); state = c .put-together .ensures i; read = l .from; bytes = l .out })
     ∙ all ∙ ap (λ z. ranInto (runs (length (a .out .now)) z (endedOf (a .lines .now))) (a .out .now)) first
@@ -71,14 +76,11 @@ run-spec =
     (λ c κs. (c .before .before .before .pre, refl))
     (λ c κs. search needs)
     loop-holds
-    end-of-requires
+    (λ c κs. c .before .loop .inv .0 .within)
     (λ c. let l = c .before .before .before .loop in omega (arith, running-size (l .inv .0), l .inv .0 .fits))
-    (λ c. omega (arith, c .before .before .before .end-of .ensures))
-    (λ c. omega (arith, c .before .before .before .end-of .ensures))
-    (λ c. omega (arith, c .before .before .before .end-of .ensures, end-within (c .before .before .before .before .before .before .before .before .before .before .before .args .lines .now) (c .before .before .before .before .before .loop .from) (c .before .before .before .before .before .loop .inv .0 .within)))
     tell-requires
-    (λ c. let e = c .before .before .before .before .before .before .before .before .before .before in omega (arith, c .before .before .before .before .before .before .before .before .before .if1 .left, e .end-of .ensures, end-within (e .before .before .before .before .before .before .before .before .args .lines .now) (e .before .before .loop .from) (e .before .before .loop .inv .0 .within)))
-    (λ c. omega (arith, c .before .before .before .before .before .before .before .before .before .before .end-of .ensures))
+    add-from
+    (λ c. omega (arith, c .before .before .before .before .before .before .before .before .before .next-line .ensures .0))
     loop-again
     (λ c κs. let v = c .before .before .loop .inv in (v .1, v .2))
     (λ c. running-size (c .before .before .before .loop .inv .0))

@@ -1,5 +1,5 @@
 -- A line that is no frame is refused; any other has the text of its call.
-use mathlib.Core.Path.{refl, sym, _∙_}
+use mathlib.Core.Path.{refl}
 use borrow.Author.Needs.{needs}
 use Rattle.calls.specs.Slots.{scheduleOf}
 use Rattle.calls.proofs.Said.{says-bad, says-good}
@@ -8,24 +8,23 @@ use Rattle.calls.proofs.lines.tell.Tie as tie
 
 returns : tie.Need-returns
 returns c =
-    let start = c .before .before .before .before .before .before .before .before .before in
+    let start = c .before .before .before .before .before .before .before in
     let a = start .args in
     let pre = start .pre in
-    let bad = sym (c .before .before .before .before .enum-told .given .1) ∙ c .before .before .before .before .before .before .decode .ensures in
-    says-bad (scheduleOf (a .d) (a .slots .now)) (a .line .now) (pre .1 .1) _ bad (pre .0 .size) (pre .0 .count) (pre .1 .0) refl (c .before .before .refused .ensures)
+    rw (c .before .before .before .before .enum-told .given .1)
+    (says-bad (scheduleOf (a .d) (a .slots .now)) (pre .1 .1) _ (pre .0 .size) (pre .0 .count) (pre .1 .0) refl (c .before .before .refused .ensures))
 
 returns-2 : tie.Need-returns-2
 returns-2 c =
-    let start = c .before .before .before .before .before .before .before .before .before .before .before .before .before .before .before .before in
+    let start = c .before .before .before .before .before .before .before .before .before .before .before .before .before .before in
     let a = start .args in
-    let good = sym (c .before .before .before .before .before .before .before .before .before .before .before .decoded .given .1) ∙ c .before .before .before .before .before .before .before .before .before .before .before .before .before .decode .ensures in
-    says-good (scheduleOf (a .d) (a .slots .now)) (a .line .now) (start .pre .1 .1) _ good _ (c .before .before .before .before .before .before .before .act-on .ensures) _ (c .before .before .told .ensures)
+    rw (c .before .before .before .before .before .before .before .before .before .before .before .line .given .1)
+    (says-good (scheduleOf (a .d) (a .slots .now)) (start .pre .1 .1) _ _ (c .before .before .before .before .before .before .before .act-on .ensures) _ (c .before .before .told .ensures))
 
 pub tell-spec : {M : Type 1} → statement M
 tell-spec =
     tie.close
     (tie.spec
-    (λ c κs. search needs)
     (λ c. search needs)
     (λ c. search needs)
     (λ c κs. search needs)

@@ -1,0 +1,38 @@
+-- A frame decoded before a line feed is the line; otherwise the search finds where the line ends.
+use mathlib.Core.Path.{sym, _∙_}
+use native.Mathlib.Omega.{arith}
+use borrow.Author.Needs.{needs}
+use Rattle.calls.proofs.Ends.{end-within, end-of-frame}
+use Rattle.calls.proofs.lines.next_line.Statement.{statement}
+use Rattle.calls.proofs.lines.next_line.Tie as tie
+
+returns : tie.Need-returns
+returns c =
+    let start = c .before .before .before .before .before .before in
+    let d = c .before .before .decode in
+    let e = c .before .before .before .before .likely-end .ensures in
+    (end-of-frame (start .args .text .now) (start .args .from) _ (e .0) (e .2) _ (sym (d .ensures) ∙ c .enum-told .given .1), d .ensures)
+
+part-decode-end-2 : tie.Need-part-decode-end-2
+part-decode-end-2 c =
+    let start = c .before .before .before .before .before .before .before in
+    omega (arith, c .end-of .ensures, end-within (start .args .text .now) (start .args .from) (start .pre))
+
+pub next-line-spec : {M : Type 1} → statement M
+next-line-spec =
+    tie.close
+    (tie.spec
+    (λ c κs. search needs)
+    (λ c. search needs)
+    (λ c. search needs)
+    (λ c. search needs)
+    (λ c κs. search needs)
+    (λ c. search needs)
+    returns
+    (λ c. search needs)
+    (λ c κs. search needs)
+    (λ c. search needs)
+    (λ c. search needs)
+    part-decode-end-2
+    (λ c κs. search needs)
+    (λ c. (c .before .before .end-of .ensures, c .decode2 .ensures)))
