@@ -1,25 +1,26 @@
 -- One control: cut from a mask, and looked for at a place, in the union of the places, and at two places.
-use mathlib.Core.Path.{_≡_, refl, ap, _∙_}
-use Prim.Native.Nat.{ℕ, suc, _+_, _-_, _*_, _/_, _%_, _^_, _<_}
-use native.Mathlib.Nat.{one-mul, pow-suc, div-eq-of-lt}
+use mathlib.Core.Path.{_≡_, refl, sym, ap, _∙_}
+use Prim.Native.Nat.{ℕ, zero, suc, _+_, _-_, _*_, _/_, _%_, _^_, _<_, _≤_}
+use native.Mathlib.Nat.{one-mul, pow-suc, div-eq-of-lt, lt-of-not-le}
 use native.Mathlib.Omega.{arith}
 use mathlib.Core.Bool.{Bool, true, false, and-true, and-false, or-true}
 use mathlib.Core.List.{List}
 use lib.ListN.{length, getD, set, List·getD-eq-default}
 use lib.Seq.{getD-set-same, getD-set-other}
-use lib.Pow.{pow-add, pow-lt, shl-shr}
-use lib.Bits.{bitAnd, bitOr, and-shr, and-mod}
+use lib.Pow.{pow-add, pow-lt, pow-mono, pow-pos, shl-shr}
+use lib.Bits.{bitAnd, bitOr, bitXor, and-shr, and-mod, and-le-r, xor-add-and}
+use lib.Count.{trailingZeros, under}
 use lib.Dec.{ltb}
 use borrow.Author.Tests.{eqb-true, ltb-true, ltb-false, ne-eqb}
 use borrow.Author.Count.{below-more}
 use Rattle.rules.specs.Records.{has, cut, join}
 use Rattle.rules.proofs.Tests.{both}
-use Rattle.rules.proofs.Masks.{has-cut, has-join, has-none, cut-apart}
+use Rattle.rules.proofs.Masks.{has-cut, has-join, has-none, has-half, odd, cut-apart}
 use Rattle.calls.specs.Columns.{Gives}
 use Rattle.calls.specs.Settled.{HasAt, Contested}
 
 -- what is too small for a control has it not
-pub has-above : (m k : ℕ) → m < 2 ^ k → has m k ≡ false
+has-above : (m k : ℕ) → m < 2 ^ k → has m k ≡ false
 unfolding has
 has-above m k l = rw (div-eq-of-lt l)
 
@@ -57,6 +58,48 @@ cut-other m c k d = rw (has-cut, none (has (2 ^ c) k) refl, and-true)
 
 pub cut-not : (m c : ℕ) → has m c ≡ false → cut m (2 ^ c) ≡ m
 cut-not m c e = cut-apart m (2 ^ c) (λ k p q. both (has m c) (rw (has-only c k q) at p) e)
+
+-- The lowest control of a mask, and a control that is flipped.
+
+pub has-lowest : (w m : ℕ) → 0 < m → m < 2 ^ w → has m (trailingZeros w m) ≡ true
+unfolding trailingZeros
+has-lowest zero m p l = absurd (omega arith)
+has-lowest (suc w) m p l = go (m % 2) refl (λ e. has-lowest w (m / 2) (omega arith) (omega (arith, pow-suc 2 w)))
+  where
+    go : (d : ℕ) → m % 2 ≡ d → (m % 2 ≡ 0 → has (m / 2) (trailingZeros w (m / 2)) ≡ true) → has m (under d (trailingZeros w (m / 2))) ≡ true
+    go zero e half = sym (has-half m _) ∙ half e
+    go (suc d) e half = odd m (omega arith)
+
+-- a mask is no less than a control of it
+has-least : (m k : ℕ) → has m k ≡ true → 2 ^ k ≤ m
+has-least m k e = go (ltb m (2 ^ k)) refl
+  where
+    go : (b : Bool) → ltb m (2 ^ k) ≡ b → 2 ^ k ≤ m
+    go true p = both _ e (has-above m k (ltb-true m (2 ^ k) p))
+    go false p = ltb-false m (2 ^ k) p
+
+-- a mask of w bits has controls below w alone
+pub has-within : (w m k : ℕ) → m < 2 ^ w → has m k ≡ true → k < w
+has-within w m k l e = lt-of-not-le (λ h. omega (arith, has-least m k e, pow-mono h))
+
+-- a control that a mask has is cut from it when it is flipped
+module _ (m c : ℕ) (e : has m c ≡ true) where
+  -- the two have the control in common
+  shared : bitAnd m (2 ^ c) ≡ 2 ^ c
+  shared = omega (arith, and-le-r m (2 ^ c), has-least _ c (has-and m (2 ^ c) c e (has-self c)))
+
+  flipped : bitXor m (2 ^ c) ≡ cut m (2 ^ c)
+  unfolding cut
+  flipped = sym (ap (bitXor m) shared)
+
+  pub flip-same : has (bitXor m (2 ^ c)) c ≡ false
+  flip-same = rw flipped (cut-same m c)
+
+  pub flip-other : (k : ℕ) → (k ≡ c → ⊥) → has (bitXor m (2 ^ c)) k ≡ has m k
+  flip-other k d = rw flipped (cut-other m c k d)
+
+  pub flip-less : bitXor m (2 ^ c) < m
+  flip-less = omega (arith, xor-add-and m (2 ^ c), shared, pow-pos c)
 
 -- Places: the controls of any, and those of two.
 

@@ -35,7 +35,7 @@ ascending n is l h i j p q =
 -- The cases.
 
 -- it is this one or another
-same : (x y : ℕ) → (x ≡ y) ⊎ (x ≡ y → ⊥)
+pub same : (x y : ℕ) → (x ≡ y) ⊎ (x ≡ y → ⊥)
 same x y = go (eqb x y) refl
   where
     go : (b : Bool) → eqb x y ≡ b → (x ≡ y) ⊎ (x ≡ y → ⊥)

@@ -124,14 +124,10 @@ pub(crate) fn settle(
     requires { ⌜ Numbered n (slotsAt (now slots) (now places)) ⌝ }
     ensures { λ _. ⌜ (length (now (masks .exit)) ≡ 48) × (take n (now (masks .exit)) ≡ settled (claimants (take n (now (masks .entry))) (take n (primaciesOf programs (slotsAt (now (slots .entry)) (now (places .entry))))) (take n (createdOf (slotsAt (now (slots .entry)) (now (places .entry))))) (take n (idsOf (slotsAt (now (slots .entry)) (now (places .entry))))))) ⌝ }
 {
-    if shared == 0 {
-        return;
-    }
-    let mut c: u32 = 0;
-    while c < 32 {
-        if is_in(shared, c) {
-            decide(masks, programs, slots, places, n, c);
-        }
-        c += 1;
+    let mut rest = shared;
+    while rest != 0 {
+        let c = u32::trailing_zeros(rest);
+        decide(masks, programs, slots, places, n, c);
+        rest ^= 1 << c;
     }
 }

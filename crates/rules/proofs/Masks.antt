@@ -58,11 +58,11 @@ has-either false m c e = e
 
 -- Masks that share no control.
 
-has-half : (a c : ℕ) → has (a / 2) c ≡ has a (suc c)
+pub has-half : (a c : ℕ) → has (a / 2) c ≡ has a (suc c)
 unfolding has
 has-half a c = rw (div-div-eq-div-mul a 2 (2 ^ c), pow-succ' 2 c)
 
-odd : (n : ℕ) → n % 2 ≡ 1 → has n 0 ≡ true
+pub odd : (n : ℕ) → n % 2 ≡ 1 → has n 0 ≡ true
 unfolding has
 odd n e = rw (div-one, e)
 
