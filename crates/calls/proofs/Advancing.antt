@@ -1,10 +1,9 @@
 -- The loop over moments: what was passed and what is left make up the whole, and the columns say where the entries stand.
-use mathlib.Core.Path.{_≡_, refl, sym, ap, ap₂, _∙_, subst}
-use Prim.Native.Nat.{ℕ, zero, suc, _+_, _-_, _<_, _≤_}
-use mathlib.Core.Bool.{Bool, true, false, cond}
-use mathlib.Core.List.{List, [], _∷_, _++_, map, append-assoc, append-nil}
+use mathlib.Core.Path.{_≡_, refl, sym, ap, _∙_, subst}
+use Prim.Native.Nat.{ℕ, suc, _+_, _-_, _<_, _≤_}
+use mathlib.Core.Bool.{true}
+use mathlib.Core.List.{List, [], _++_, map, append-assoc, append-nil}
 use native.Mathlib.Omega.{arith}
-use lib.Dec.{ltb}
 use lib.ListN.{length, take, getD, length-append, length-map}
 use lib.Seq.{getD-take, ext-getD}
 use borrow.Author.Tests.{lt-ltb}
@@ -12,7 +11,7 @@ use Rattle.rules.specs.declared.Entry.{Entry}
 use Rattle.rules.specs.declared.Program.{Program}
 use Rattle.rules.specs.declared.Schedule.{Schedule}
 use Rattle.rules.specs.Lists.{keep, All, Pairwise}
-use Rattle.rules.specs.Records.{State, noEntry, lastClock, idOf, programAt, view, pad}
+use Rattle.rules.specs.Records.{noEntry, lastClock, idOf, programAt, view}
 use Rattle.rules.specs.Holding.{heldAt, withHolding, endOf}
 use Rattle.rules.specs.Rows.{Row, rowsAt}
 use Rattle.rules.specs.Moments.{lasts, advance, passed}

@@ -1,13 +1,15 @@
 -- What a column of the slots at places has is what the column of all slots has at the place.
-use mathlib.Core.Path.{_≡_, sym, ap, _∙_}
-use Prim.Native.Nat.{ℕ, _<_}
+use mathlib.Core.Path.{_≡_, sym, ap, ap₂, _∙_}
+use Prim.Native.Nat.{ℕ, _<_, _≤_}
+use mathlib.Core.Bool.{Bool}
 use mathlib.Core.List.{List, [], map}
 use native.Mathlib.Omega.{arith}
 use lib.ListN.{length, getD, length-map}
 use Rattle.rules.specs.declared.Program.{Program}
+use Rattle.rules.specs.Holding.{better}
 use Rattle.calls.specs.Columns.{primaciesOf, createdOf, idsOf}
-use Rattle.calls.specs.Settled.{rankAt}
-use Rattle.calls.specs.Live.{slotsAt}
+use Rattle.calls.specs.Settled.{rankAt, betterAt}
+use Rattle.calls.specs.Live.{slotsAt, Placed}
 use Rattle.calls.proofs.Reached.{at-map}
 
 module _ (w : List (List ℕ)) (places : List ℕ) where
@@ -37,6 +39,16 @@ module _ (w : List (List ℕ)) (places : List ℕ) where
       id-there = column-there _ 0
 
       -- so is the rank
-      pub rank-there : (ps : List Program)
+      rank-there : (ps : List Program)
           → rankAt (primaciesOf ps (slotsAt w places)) (createdOf (slotsAt w places)) (idsOf (slotsAt w places)) k ≡ rankAt (primaciesOf ps w) (createdOf w) (idsOf w) (getD places k 0)
       rank-there ps = λ i. record { primacy = primacy-there ps i; created = created-there i; id = id-there i }
+
+-- whether one is better (t) is the same of two places and of their slots
+pub better-there : (ps : List Program) (w : List (List ℕ)) (places : List ℕ) (n : ℕ) → n ≤ 48 → length w ≡ 48 → Placed n places → (i j : ℕ) → i < n → j < n → (t : Bool)
+    → t ≡ betterAt (primaciesOf ps w) (createdOf w) (idsOf w) (getD places i 0) (getD places j 0)
+    → t ≡ betterAt (primaciesOf ps (slotsAt w places)) (createdOf (slotsAt w places)) (idsOf (slotsAt w places)) i j
+better-there ps w places n few long p i j k l t e = e ∙ sym (ap₂ better (rank i k) (rank j l))
+  where
+    rank : (m : ℕ) → m < n
+        → rankAt (primaciesOf ps (slotsAt w places)) (createdOf (slotsAt w places)) (idsOf (slotsAt w places)) m ≡ rankAt (primaciesOf ps w) (createdOf w) (idsOf w) (getD places m 0)
+    rank m h = rank-there w places m (omega (arith, p .long)) (omega (arith, p .within m h)) ps

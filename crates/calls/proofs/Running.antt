@@ -18,7 +18,7 @@ use Rattle.rules.specs.Frames.{lineOf, frameCall}
 use Rattle.rules.specs.Printed.{room, tellFrame, tellLine, tell}
 use Rattle.rules.proofs.Over.{over-then, over-size}
 use Rattle.rules.proofs.SoundKept.{sound-call}
-use Rattle.calls.specs.Lines.{longer, endedOf, upTo, Run, runs, RunOutcome, ranInto}
+use Rattle.calls.specs.Lines.{longer, endedOf, upTo, Run, runs, ranInto}
 use Rattle.text.specs.Texts.{mostText}
 use Rattle.calls.specs.declared.lines.Telling.{Telling}
 use Rattle.calls.specs.Slots.{scheduleOf}

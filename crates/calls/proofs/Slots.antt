@@ -1,12 +1,11 @@
 -- What stands in the slots, and the schedule that they are.
-use mathlib.Core.Path.{_≡_, refl, sym, ap, _∙_, subst}
+use mathlib.Core.Path.{_≡_, ap, _∙_, subst}
 use Prim.Native.Nat.{ℕ, _%_, _<_, _≤_}
 use mathlib.Core.List.{List, [], map}
 use native.Mathlib.Omega.{arith}
 use lib.ListN.{length, getD, take, set, length-map, List·getD-append}
 use lib.Seq.{getD-take, length-take-le, getD-set-same, getD-set-other}
-use Rattle.rules.specs.declared.Entry.{Entry}
-use Rattle.rules.specs.Records.{mostEvents, noEntry, view}
+use Rattle.rules.specs.Records.{noEntry, view}
 use Rattle.rules.proofs.SoundState.{Sound, view-pad, sound-view}
 use Rattle.calls.specs.declared.held.Head.{Head}
 use Rattle.rules.specs.Holding.{withHolding}

@@ -1,24 +1,22 @@
 -- Moments over a list from which nothing is dropped: what has ended claims nothing and gives no row, so dropping it at the last moment is enough.
-use mathlib.Core.Path.{_≡_, refl, sym, ap, ap₂, _∙_, fun-ext, subst}
-use mathlib.Core.Logic.{_⊎_, inl, inr, ⊎-elim}
-use Prim.Native.Nat.{ℕ, zero, suc, _+_, _-_, _<_, _≤_}
-use mathlib.Core.Bool.{Bool, true, false, cond}
-use mathlib.Core.List.{List, [], _∷_, _++_, map}
+use mathlib.Core.Path.{_≡_, refl, sym, ap, _∙_, fun-ext, subst}
+use Prim.Native.Nat.{ℕ, suc, _+_, _-_, _≤_}
+use mathlib.Core.Bool.{Bool, true, false}
+use mathlib.Core.List.{List, [], map}
 use native.Mathlib.Omega.{arith}
-use lib.Dec.{ltb}
-use borrow.Author.Tests.{ltb-true, ltb-false, lt-ltb, le-ltb}
+use borrow.Author.Tests.{ltb-false, lt-ltb, le-ltb}
 use Rattle.rules.specs.declared.Entry.{Entry}
 use Rattle.rules.specs.declared.Program.{Program}
 use Rattle.rules.specs.Lists.{keep, In, All}
 use Rattle.rules.specs.Records.{State, cut, lastClock}
 use Rattle.rules.specs.Holding.{claim, taken, heldAt, Holding, holdingAt, withHolding, endOf}
-use Rattle.rules.specs.Rows.{Row, codeAt, rowsFrom, rowsAt}
-use Rattle.rules.specs.Moments.{Moved, lasts, entriesFrom, second, advance}
-use Rattle.rules.proofs.ListLaws.{in-keep, keep-in, keep-map, keep-keep, keep-cong, map-same}
-use Rattle.rules.proofs.Claims.{claim-ended, code-ended, taken-keep, Kind, rows-eq, gives-none}
+use Rattle.rules.specs.Rows.{codeAt, rowsFrom, rowsAt}
+use Rattle.rules.specs.Moments.{lasts, entriesFrom, second, advance}
+use Rattle.rules.proofs.ListLaws.{keep-in, keep-map, keep-keep, keep-cong, map-same}
+use Rattle.rules.proofs.Claims.{claim-ended, code-ended, taken-keep, rows-eq, gives-none}
 use Rattle.rules.proofs.SoundState.{Sound}
 use Rattle.rules.proofs.SoundKept.{sound-advance}
-use Rattle.rules.proofs.Jump.{later, onward, advance-add, Idle, idle}
+use Rattle.rules.proofs.Jump.{onward, advance-add, Idle, idle}
 
 -- every entry after moment t, ended ones too
 abbrev pub settledAt : List Program → ℕ → List Entry → List Entry

@@ -13,7 +13,7 @@ use Rattle.rules.specs.Lists.{over}
 use Rattle.rules.specs.Sound.{sound}
 use Rattle.rules.specs.Calls.{Value, nothing, count, Outcome, numberOf, valueOf, call}
 use Rattle.rules.specs.Frames.{lineOf, frameCall}
-use Rattle.rules.specs.Printed.{Told, tell}
+use Rattle.rules.specs.Printed.{tell}
 use Rattle.text.specs.Texts.{mostText}
 use Rattle.calls.specs.declared.Ran as declared
 

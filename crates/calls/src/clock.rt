@@ -1,9 +1,9 @@
 // A moment, over columns of plain numbers: what the events at the first n places have. Nothing is dropped on the way: an event that has ended claims nothing and gives no
 // row, so it is enough to drop it after the last moment. None of these events is cancelled.
 ghost use mathlib.Core.Path.{_≡_};
-ghost use Prim.Native.Nat.{ℕ, _+_, _≤_, _<_, min};
-ghost use lib.ListN.{length, getD};
-ghost use Rattle.rules.specs.Records.{mostEvents, has};
+ghost use Prim.Native.Nat.{_+_, _≤_, _<_, min};
+ghost use lib.ListN.{length};
+ghost use Rattle.rules.specs.Records.{has};
 ghost use Rattle.rules.specs.Bytes.{big};
 ghost use Rattle.calls.specs.Columns.{idsOf, claimOf, codeOf, Dated, Claims, Codes, Gives, nearest, nextOf, rowIf, codedRows, momentRows, Put, Written};
 ghost use Rattle.calls.specs.Live.{slotsAt, Placed};

@@ -3,7 +3,7 @@ ghost use mathlib.Core.Path.{_≡_};
 ghost use mathlib.Core.List.{[], _∷_, _++_, map};
 ghost use Prim.Native.Nat.{_+_, _≤_, _<_};
 ghost use lib.ListN.{length, take, drop};
-ghost use Rattle.rules.specs.Records.{mostEvents, lastClock, idOf, view};
+ghost use Rattle.rules.specs.Records.{mostEvents, lastClock, idOf};
 ghost use Rattle.rules.specs.Refusals.{late, firstOf};
 ghost use Rattle.rules.specs.Calls.{call, deliver, cancel, checks};
 ghost use Rattle.calls.specs.Slots.{entryOf, stateOf, scheduleOf, Ready};

@@ -1,11 +1,11 @@
 // Who keeps which control, where a better event takes it: control by control, by shifts.
 ghost use mathlib.Core.Path.{_≡_};
-ghost use Prim.Native.Nat.{ℕ, _≤_, _<_, _^_};
+ghost use Prim.Native.Nat.{_≤_, _<_, _^_};
 ghost use mathlib.Core.List.{[]};
 ghost use lib.ListN.{length, take, getD, set};
 ghost use Rattle.rules.specs.Lists.{Pairwise};
-ghost use Rattle.rules.specs.Records.{has, cut, programAt};
-ghost use Rattle.rules.specs.Holding.{better, rankOf};
+ghost use Rattle.rules.specs.Records.{has, cut};
+ghost use Rattle.rules.specs.Holding.{better};
 ghost use Rattle.calls.specs.Slots.{entryOf};
 ghost use Rattle.calls.specs.Columns.{primaciesOf, createdOf, idsOf, Numbered};
 ghost use Rattle.calls.specs.Settled.{claimants, settled, rankAt, betterAt, Contested, Decided};

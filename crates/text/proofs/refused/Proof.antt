@@ -2,7 +2,6 @@
 use mathlib.Core.Path.{sym, _∙_}
 use borrow.Author.Needs.{needs}
 use borrow.Author.Tests.{not-true, not-false, leb-true}
-use lib.ListN.{length}
 use Rattle.rules.specs.Printed.{refusedText}
 use Rattle.text.proofs.Printing.{room-none, room-there}
 use Rattle.text.proofs.refused.Statement.{statement}

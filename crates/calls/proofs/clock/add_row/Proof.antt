@@ -1,5 +1,5 @@
 -- A row is three parts, one after the other.
-use Prim.Native.Nat.{ℕ, _+_, _*_}
+use Prim.Native.Nat.{_*_}
 use native.Mathlib.Omega.{arith}
 use borrow.Author.Needs.{needs}
 use Rattle.calls.proofs.Puts.{row-put, row-given, row-not, row-fits}

@@ -1,8 +1,7 @@
 -- Byte by byte, each one more of the number.
-use Prim.Native.Nat.{ℕ, zero, suc, _+_, _/_, _%_}
+use Prim.Native.Nat.{_+_, _/_}
 use native.Mathlib.Omega.{arith}
 use Rattle.rules.specs.Bytes.{big}
-use Rattle.calls.specs.Columns.{Put}
 use Rattle.calls.proofs.Puts.{none, more}
 use borrow.Author.Needs.{needs}
 use Rattle.calls.proofs.clock.put8.Statement.{statement}

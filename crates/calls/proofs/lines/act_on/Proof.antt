@@ -1,5 +1,4 @@
 -- Frame by frame, its call. A buffer that the call is not lent stays as it is.
-use mathlib.Core.Path.{_≡_, sym, subst}
 use borrow.Author.Needs.{needs}
 use Rattle.calls.proofs.Said.{on-event, on-cancel, on-clock, on-program, on-ask}
 use Rattle.calls.proofs.lines.act_on.Statement.{statement}

@@ -7,14 +7,13 @@ use Prim.Native.Nat.{ℕ, _-_, _<_}
 use mathlib.Core.List.{[]}
 use lib.ListN.{getD}
 use native.Mathlib.Omega.{arith}
-use mathlib.Core.Path.{_≡_, sym, ap₂, _∙_}
+use mathlib.Core.Path.{_≡_}
 use mathlib.Core.Logic.{⊎-elim}
-use Rattle.rules.specs.Holding.{better}
 use Rattle.calls.specs.Slots.{entryOf}
 use Rattle.calls.specs.Columns.{primaciesOf, createdOf, idsOf}
 use Rattle.calls.specs.Settled.{rankAt}
 use Rattle.calls.proofs.Columned.{ids-long}
-use Rattle.calls.proofs.AtPlaces.{as-many, slot-there, rank-there}
+use Rattle.calls.proofs.AtPlaces.{as-many, slot-there, better-there}
 use Rattle.calls.proofs.Deciding.{Best, none, skip, first, ahead, behind, decided, ascending}
 
 abbrev Inv-loop : tie.InvT-loop
@@ -79,16 +78,14 @@ loop-again c =
     let b = x .inv in
     let l = c .before .before .before .loop-test .taken in
     let e = c .before .is-in .ensures in
-    let p = s .pre .1 .1 .0 .1 in
-    let w = a .slots .now in
-    let v = slotsAt w (a .places .now) in
-    let rank : (k : ℕ) → k < a .n → rankAt (primaciesOf (a .programs) v) (createdOf v) (idsOf v) k ≡ rankAt (primaciesOf (a .programs) w) (createdOf w) (idsOf w) (getD (a .places .now) k 0) =
-    λ k h. rank-there w (a .places .now) k (omega (arith, p .long, s .pre .0)) (omega (arith, s .pre .1 .1 .0 .0, p .within k h)) (a .programs) in
+    let p = s .pre .1 .1 .0 in
+    let v = slotsAt (a .slots .now) (a .places .now) in
+    let of = better-there (a .programs) (a .slots .now) (a .places .now) (a .n) (s .pre .0) (p .0) (p .1) (x .i) (x .best) l in
     ⊎-elim (λ w. rw (w .2, w .3) (first b l e (w .0 .taken) (w .1 .taken)))
-    (⊎-elim (λ w. rw (w .8, w .7 .ensures, w .9) (ahead b l e (w .0 .taken) (w .1 .left) (w .4 .ensures ∙ ap₂ better (sym (rank (x .i) l)) (sym (rank (x .best) (omega (arith, b .bound, w .1 .left))))) (w .5 .taken)))
+    (⊎-elim (λ w. rw (w .8, w .7 .ensures, w .9) (ahead b l e (w .0 .taken) (w .1 .left) (of (omega (arith, b .bound, w .1 .left)) (w .4 .result) (w .4 .ensures)) (w .5 .taken)))
     (⊎-elim
     (λ w. rw (w .8, w .7 .ensures, w .9)
-    (behind b l e (w .0 .taken) (w .1 .left) (w .4 .ensures ∙ ap₂ better (sym (rank (x .i) l)) (sym (rank (x .best) (omega (arith, b .bound, w .1 .left))))) (w .5 .left) (ascending _ (idsOf v) (omega (arith, ids-long v, as-many (a .slots .now) (a .places .now), p .long, s .pre .0)) (s .pre .1 .1 .1 .0))))
+    (behind b l e (w .0 .taken) (w .1 .left) (of (omega (arith, b .bound, w .1 .left)) (w .4 .result) (w .4 .ensures)) (w .5 .left) (ascending _ (idsOf v) (omega (arith, ids-long v, as-many (a .slots .now) (a .places .now), p .1 .long, s .pre .0)) (s .pre .1 .1 .1 .0))))
     (λ w. rw (w .1, w .2) (skip b l e (w .0 .left)))))
     (c .if1 .came)
 

@@ -4,7 +4,7 @@ use Prim.Native.Nat.{_+_, _*_, _-_, _≤_}
 use native.Mathlib.Omega.{arith}
 use borrow.Author.Needs.{needs}
 use lib.ListN.{getD}
-use Rattle.frame.proofs.Worths.{worth-bound, Pair, pair-good, pair-bad}
+use Rattle.frame.proofs.Worths.{worth-bound, pair-good, pair-bad}
 use Rattle.frame.proofs.Passes.{Passed, passed-none, passed-more, no-digit, passed-all}
 use Rattle.frame.proofs.digits.read_pairs.Statement.{statement}
 use Rattle.frame.proofs.digits.read_pairs.Tie as tie
