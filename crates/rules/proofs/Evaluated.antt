@@ -4,7 +4,7 @@ use Prim.Native.Nat.{ℕ}
 use mathlib.Core.Bool.{Bool, true, false, _&&_}
 use mathlib.Core.List.{List, [], _∷_}
 use lib.Dec.{eqb}
-use borrow.Author.Tests.{eqb-true}
+use borrow.Author.Tests.{eqb-true, eq-eqb}
 use Rattle.rules.specs.Records.{usable, has, cut, join, fresh, pad}
 use Rattle.rules.specs.Period.{drawnStart, effectiveEnd, effectiveStart}
 use Rattle.rules.specs.Holding.{key, better, claim, taken, heldAt, holdingAt}
@@ -43,11 +43,15 @@ example-evaluates : same (quickTellAll fresh (linesOf exampleInput)) exampleOutp
 unfolding linesOf decimal rowsText digit paired unhex isFrame frameOf lineOf read eventAt exampleInput exampleOutput quickTellAll quickTellFrame quickCall quickChecks quickDoes jumps nextMoment idleFor advance second entriesFrom rowsAt rowsFrom rowsWith codeAt holdingAt heldAt taken claim better key drawnStart effectiveEnd effectiveStart usable has cut join big flat rowBytes outOfRange malformed sameEvent find late programChecks eventChecks cancelChecks clockChecks askChecks listChecks bestDefault holderIn answerFor does checks
 example-evaluates = refl
 
-same-lists : (xs ys : List ℕ) → same xs ys ≡ true → xs ≡ ys
+pub same-lists : (xs ys : List ℕ) → same xs ys ≡ true → xs ≡ ys
 same-lists [] [] e = refl
 same-lists [] (y ∷ ys) e = both false e refl
 same-lists (x ∷ xs) [] e = both false e refl
 same-lists (x ∷ xs) (y ∷ ys) e = let r = each-true (eqb x y) (same xs ys) e in ap₂ _∷_ (eqb-true x y (r .0)) (same-lists xs ys (r .1))
+
+pub same-self : (xs : List ℕ) → same xs xs ≡ true
+same-self [] = refl
+same-self (x ∷ xs) = rw (eq-eqb x x refl) (same-self xs)
 
 pub worked-example : output exampleInput ≡ exampleOutput
 worked-example = sym (quick-tell fresh sound-fresh (linesOf exampleInput)) ∙ same-lists (quickTellAll fresh (linesOf exampleInput)) exampleOutput example-evaluates

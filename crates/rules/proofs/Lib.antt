@@ -15,6 +15,8 @@ pub mod Quiet
 pub mod SoundKept
 pub mod Quick
 pub mod Evaluated
+pub mod Witnessed
+pub mod FaceSeen
 pub mod Numbers
 pub mod Entries
 pub mod Images

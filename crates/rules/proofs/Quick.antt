@@ -57,7 +57,7 @@ quickCall s c =
     record { number = n; done = cond (eqb n 0) (quickDoes s c) (kept s c) }
 
 abbrev replied : Acted → Reply
-replied a = record { number = a .number; value = a .done .value; bytes = a .done .bytes }
+replied a = record { number = a .number; value = a .done .value; bytes = a .done .bytes; records = a .done .records }
 
 unfoldable pub quickReplies : State → List Call → List Reply
 quickReplies s [] = []

@@ -1,15 +1,16 @@
--- The two sample lists, by evaluation: their histories have the same members.
-use mathlib.Core.Path.{_≡_, refl, sym, ap, _∙_, subst, subst₂}
+-- The two sample lists, by evaluation: their histories have the same members. And the lists that miss the premise: theirs do not.
+use mathlib.Core.Path.{_≡_, refl, sym, ap, _∙_, subst, subst₂, fun-ext}
 use mathlib.Core.Logic.{inl, inr}
 use Prim.Native.Nat.{ℕ, _<_}
-use mathlib.Core.Bool.{Bool, true, false, cond}
+use mathlib.Core.Bool.{Bool, true, false, cond, true≢false}
+use native.Mathlib.Omega.{arith}
 use mathlib.Core.List.{List, [], _∷_, _++_}
 use mathlib.Core.Option.{Option, none, some}
 use lib.Dec.{eqb, lit<}
 use lib.ListN.{length}
 use Rattle.rules.specs.declared.Event.{Event}
 use Rattle.rules.specs.Lists.{In}
-use Rattle.rules.specs.Records.{State, usable, has, cut, join, fresh, pad}
+use Rattle.rules.specs.Records.{State, idOf, usable, has, cut, join, fresh, pad}
 use Rattle.rules.specs.Period.{drawnStart, effectiveEnd, effectiveStart}
 use Rattle.rules.specs.Holding.{key, better, claim, taken, heldAt, holdingAt}
 use Rattle.rules.specs.Rows.{codeAt, rowsWith, rowsFrom, rowsAt}
@@ -19,12 +20,15 @@ use Rattle.rules.specs.Sound.{outOfRange, malformed, sameEvent}
 use Rattle.rules.specs.Refusals.{find, late, programChecks, eventChecks, cancelChecks, clockChecks, askChecks, listChecks}
 use Rattle.rules.specs.Calls.{Call, bestDefault, holderIn, answerFor, does, checks, accepts, call, joined, written}
 use Rattle.rules.specs.History.{Added, Brought, History, noHistory, note, acceptedCalls, historyFrom, historyOf}
-use Rattle.rules.specs.Arrival.{SameArrivals, InTime}
-use Rattle.rules.specs.Sample.{one, two, three, four, plainly, otherwise, Sample}
+use Rattle.rules.specs.Arrival.{SameArrivals, InTime, Cancellation, joinedRows}
+use Rattle.rules.specs.Sample.{event, one, two, three, four, five, plainly, otherwise, Missed, prompt, tardy, cancelledAt, uncancelled, another, redrawn, longer, shorter, ranked, Sample}
+use Rattle.rules.specs.ScheduleTable.{historiesHold, historyTable}
+use Rattle.rules.specs.Marks.{same}
 use Rattle.rules.proofs.SoundState.{Sound}
 use Rattle.rules.proofs.SoundKept.{sound-fresh}
 use Rattle.rules.proofs.Jump.{jumps, nextMoment, idleFor}
 use Rattle.rules.proofs.Quick.{Acted, quickChecks, quickDoes, quickCall, call-quick, number-quick, sound-quick, padded}
+use Rattle.rules.proofs.Evaluated.{same-self}
 use Rattle.rules.proofs.Order.{arrival-order}
 
 -- the accepted calls and the joined rows of the quick run
@@ -33,7 +37,8 @@ unfoldable quickAccepted : State → List Call → List Call
 quickAccepted s [] = []
 quickAccepted s (c ∷ cs) =
     let a = quickCall s c in
-    cond (eqb (a .number) 0) (c ∷ quickAccepted (a .done .state) cs) (quickAccepted (a .done .state) cs)
+    let rest = quickAccepted (a .done .state) cs in
+    cond (eqb (a .number) 0) (c ∷ rest) rest
 
 unfoldable quickJoined : State → List Call → List ℕ
 quickJoined s [] = []
@@ -61,46 +66,156 @@ quick-joined s v (c ∷ cs) =
 abbrev brought : Event → ℕ → Option ℕ → Brought
 brought e r c = record { event = e; receipt = r; cancelled = c }
 
--- the receipt clocks of `one`, `two`, `three`, `four`
-abbrev history : ℕ → ℕ → ℕ → ℕ → History
-history r1 r2 r3 r4 =
+abbrev added : ℕ → ℕ → ℕ → Added
+added n p d = record { number = n; primacy = p; defaults = d }
+
+-- the programs, and the receipt clocks of `one`, `two`, `three`, `four`, `five`
+abbrev history : List Added → ℕ → ℕ → ℕ → ℕ → ℕ → History
+history ps r1 r2 r3 r4 r5 =
     record {
-      programs = record { number = 0; primacy = 1; defaults = 1 } ∷ [];
-      brought = brought one r1 (some 12) ∷ brought three r3 none ∷ brought two r2 none ∷ brought four r4 none ∷ [];
+      programs = ps;
+      brought = brought one r1 (some 12) ∷ brought three r3 none ∷ brought two r2 none ∷ brought four r4 none ∷ brought five r5 none ∷ [];
       last = 42;
     }
 
-plainly-quick : historyFrom noHistory (quickAccepted fresh plainly) ≡ history 0 0 33 0
+abbrev first : Added
+first = added 0 1 1
+
+abbrev other : Added
+other = added 1 2 0
+
+-- what the accepted calls of a list bring, by the quick run
+abbrev quickHistory : List Call → History
+quickHistory cs = historyFrom noHistory (quickAccepted fresh cs)
+
+history-quick : (cs : List Call) → historyOf cs ≡ quickHistory cs
+history-quick cs = ap (historyFrom noHistory) (sym (quick-accepted fresh sound-fresh cs))
+
+histories-evaluate : historiesHold quickHistory historyTable ≡ true
+unfolding historiesHold historyTable historyFrom note quickAccepted quickCall quickChecks quickDoes jumps nextMoment idleFor advance second entriesFrom rowsAt rowsFrom rowsWith codeAt holdingAt heldAt taken claim better key drawnStart effectiveEnd effectiveStart usable has cut join big flat rowBytes outOfRange malformed sameEvent find late programChecks eventChecks cancelChecks clockChecks askChecks listChecks bestDefault holderIn answerFor does checks
+histories-evaluate = refl
+
+pub histories-hold : historiesHold historyOf historyTable ≡ true
+histories-hold = ap (λ brings. historiesHold brings historyTable) (fun-ext history-quick) ∙ histories-evaluate
+
+plainly-quick : quickHistory plainly ≡ history (other ∷ first ∷ []) 0 0 33 0 0
 unfolding plainly historyFrom note quickAccepted quickCall quickChecks quickDoes jumps nextMoment idleFor advance second entriesFrom rowsAt rowsFrom rowsWith codeAt holdingAt heldAt taken claim better key drawnStart effectiveEnd effectiveStart usable has cut join big flat rowBytes outOfRange malformed sameEvent find late programChecks eventChecks cancelChecks clockChecks askChecks listChecks bestDefault holderIn answerFor does checks
 plainly-quick = refl
 
-otherwise-quick : historyFrom noHistory (quickAccepted fresh otherwise) ≡ history 5 5 31 5
+otherwise-quick : quickHistory otherwise ≡ history (first ∷ other ∷ []) 9 14 39 15 11
 unfolding otherwise historyFrom note quickAccepted quickCall quickChecks quickDoes jumps nextMoment idleFor advance second entriesFrom rowsAt rowsFrom rowsWith codeAt holdingAt heldAt taken claim better key drawnStart effectiveEnd effectiveStart usable has cut join big flat rowBytes outOfRange malformed sameEvent find late programChecks eventChecks cancelChecks clockChecks askChecks listChecks bestDefault holderIn answerFor does checks
 otherwise-quick = refl
 
-history-plainly : historyOf plainly ≡ history 0 0 33 0
-history-plainly = ap (historyFrom noHistory) (sym (quick-accepted fresh sound-fresh plainly)) ∙ plainly-quick
-
-history-otherwise : historyOf otherwise ≡ history 5 5 31 5
-history-otherwise = ap (historyFrom noHistory) (sym (quick-accepted fresh sound-fresh otherwise)) ∙ otherwise-quick
-
-in-time : (r1 r2 r3 r4 : ℕ) → r1 < 10 → r2 < 15 → r3 < 40 → r4 < 16 → InTime (history r1 r2 r3 r4)
+in-time : (ps : List Added) (r1 r2 r3 r4 r5 : ℕ) → r1 < 10 → r2 < 15 → r3 < 40 → r4 < 16 → r5 < 12 → InTime (history ps r1 r2 r3 r4 r5)
 unfolding drawnStart
-in-time r1 r2 r3 r4 l1 l2 l3 l4 x (inl e) = subst (λ x. x .receipt < drawnStart (x .event)) (sym e) l1
-in-time r1 r2 r3 r4 l1 l2 l3 l4 x (inr (inl e)) = subst (λ x. x .receipt < drawnStart (x .event)) (sym e) l3
-in-time r1 r2 r3 r4 l1 l2 l3 l4 x (inr (inr (inl e))) = subst (λ x. x .receipt < drawnStart (x .event)) (sym e) l2
-in-time r1 r2 r3 r4 l1 l2 l3 l4 x (inr (inr (inr (inl e)))) = subst (λ x. x .receipt < drawnStart (x .event)) (sym e) l4
-in-time r1 r2 r3 r4 l1 l2 l3 l4 x (inr (inr (inr (inr m)))) = absurd m
+in-time ps r1 r2 r3 r4 r5 l1 l2 l3 l4 l5 x (inl e) = subst (λ x. x .receipt < drawnStart (x .event)) (sym e) l1
+in-time ps r1 r2 r3 r4 r5 l1 l2 l3 l4 l5 x (inr (inl e)) = subst (λ x. x .receipt < drawnStart (x .event)) (sym e) l3
+in-time ps r1 r2 r3 r4 r5 l1 l2 l3 l4 l5 x (inr (inr (inl e))) = subst (λ x. x .receipt < drawnStart (x .event)) (sym e) l2
+in-time ps r1 r2 r3 r4 r5 l1 l2 l3 l4 l5 x (inr (inr (inr (inl e)))) = subst (λ x. x .receipt < drawnStart (x .event)) (sym e) l4
+in-time ps r1 r2 r3 r4 r5 l1 l2 l3 l4 l5 x (inr (inr (inr (inr (inl e))))) = subst (λ x. x .receipt < drawnStart (x .event)) (sym e) l5
+in-time ps r1 r2 r3 r4 r5 l1 l2 l3 l4 l5 x (inr (inr (inr (inr (inr m))))) = absurd m
+
+exchanged : {A : Type 0} (x y z : A) → In z (x ∷ y ∷ []) → In z (y ∷ x ∷ [])
+exchanged x y z (inl e) = inr (inl e)
+exchanged x y z (inr (inl e)) = inl e
+exchanged x y z (inr (inr m)) = absurd m
 
 premise : SameArrivals (historyOf plainly) (historyOf otherwise)
-premise = subst₂ SameArrivals (sym history-plainly) (sym history-otherwise) (record {
-  programs = λ z. (λ m. m, λ m. m);
+premise = subst₂ SameArrivals (sym (history-quick plainly ∙ plainly-quick)) (sym (history-quick otherwise ∙ otherwise-quick)) (record {
+  programs = λ z. (exchanged other first z, exchanged first other z);
   events = λ z. (λ m. m, λ m. m);
-  in-time = in-time 0 0 33 0 (lit< tt) (lit< tt) (lit< tt) (lit< tt);
-  in-time-too = in-time 5 5 31 5 (lit< tt) (lit< tt) (lit< tt) (lit< tt);
+  in-time = in-time (other ∷ first ∷ []) 0 0 33 0 0 (lit< tt) (lit< tt) (lit< tt) (lit< tt) (lit< tt);
+  in-time-too = in-time (first ∷ other ∷ []) 9 14 39 15 11 (lit< tt) (lit< tt) (lit< tt) (lit< tt) (lit< tt);
   cancellations = λ z. (λ m. m, λ m. m);
   last = refl;
 })
+
+-- Lists that miss the premise.
+
+-- rows that differ
+differ : (a b : List Call) → same (quickJoined fresh a) (quickJoined fresh b) ≡ false → joinedRows a ≡ joinedRows b → ⊥
+differ a b d e =
+    let q : quickJoined fresh a ≡ quickJoined fresh b = quick-joined fresh sound-fresh a ∙ e ∙ sym (quick-joined fresh sound-fresh b) in
+    let z : true ≡ false = sym (same-self (quickJoined fresh a)) ∙ ap (same (quickJoined fresh a)) q ∙ d in
+    absurd (true≢false z)
+
+-- the two histories of a pair
+module _ (a b : List Call) (H K : History) (p : quickHistory a ≡ H) (q : quickHistory b ≡ K) where
+  apart : (SameArrivals H K → ⊥) → SameArrivals (historyOf a) (historyOf b) → ⊥
+  apart n s = n (subst₂ SameArrivals (history-quick a ∙ p) (history-quick b ∙ q) s)
+
+-- program 0 and these events, up to 14
+abbrev small : List Brought → History
+small bs = record { programs = first ∷ []; brought = bs; last = 14 }
+
+abbrev cancelled : ℕ → Cancellation
+cancelled k = record { event = one; clock = k }
+
+other-clock : In (cancelled 9) (cancelled 10 ∷ []) → ⊥
+other-clock (inl e) = let l : _≡_ {A = ℕ} 9 10 = ap (λ c. c .clock) e in omega arith
+other-clock (inr m) = m
+
+other-id : In (event 6 0 2 100 10 20) (one ∷ []) → ⊥
+other-id (inl e) = let l : _≡_ {A = ℕ} 6 1 = ap idOf e in omega arith
+other-id (inr m) = m
+
+other-draw : In one (event 1 0 1 100 11 20 ∷ []) → ⊥
+other-draw (inl e) = let l : _≡_ {A = ℕ} 61946 61947 = ap (λ e. e .«start_draw») e in omega arith
+other-draw (inr m) = m
+
+other-program : In (added 0 1 1) (added 1 1 1 ∷ added 0 2 1 ∷ []) → ⊥
+other-program (inl e) = let l : _≡_ {A = ℕ} 0 1 = ap (λ a. a .number) e in omega arith
+other-program (inr (inl e)) = let l : _≡_ {A = ℕ} 1 2 = ap (λ a. a .primacy) e in omega arith
+other-program (inr (inr m)) = m
+
+in-time-sample : Missed (prompt) (tardy)
+unfolding historyFrom note quickAccepted quickJoined quickCall quickChecks quickDoes jumps nextMoment idleFor advance second entriesFrom rowsAt rowsFrom rowsWith codeAt holdingAt heldAt taken claim better key drawnStart effectiveEnd effectiveStart usable has cut join big flat rowBytes outOfRange malformed sameEvent find late programChecks eventChecks cancelChecks clockChecks askChecks listChecks bestDefault holderIn answerFor does checks
+in-time-sample = record {
+  premise = apart (prompt) (tardy) (small (brought one 9 none ∷ [])) (small (brought one 10 none ∷ [])) refl refl (λ s. let l : 10 < 10 = s .in-time-too (brought one 10 none) (inl refl) in omega arith);
+  rows = differ (prompt) (tardy) refl;
+}
+
+cancellation-clocks-sample : Missed (cancelledAt 9) (cancelledAt 10)
+unfolding historyFrom note quickAccepted quickJoined quickCall quickChecks quickDoes jumps nextMoment idleFor advance second entriesFrom rowsAt rowsFrom rowsWith codeAt holdingAt heldAt taken claim better key drawnStart effectiveEnd effectiveStart usable has cut join big flat rowBytes outOfRange malformed sameEvent find late programChecks eventChecks cancelChecks clockChecks askChecks listChecks bestDefault holderIn answerFor does checks
+cancellation-clocks-sample = record {
+  premise = apart (cancelledAt 9) (cancelledAt 10) (small (brought one 0 (some 9) ∷ [])) (small (brought one 0 (some 10) ∷ [])) refl refl (λ s. other-clock (s .cancellations (cancelled 9) .0 (inl refl)));
+  rows = differ (cancelledAt 9) (cancelledAt 10) refl;
+}
+
+cancellations-sample : Missed (cancelledAt 9) (uncancelled)
+unfolding historyFrom note quickAccepted quickJoined quickCall quickChecks quickDoes jumps nextMoment idleFor advance second entriesFrom rowsAt rowsFrom rowsWith codeAt holdingAt heldAt taken claim better key drawnStart effectiveEnd effectiveStart usable has cut join big flat rowBytes outOfRange malformed sameEvent find late programChecks eventChecks cancelChecks clockChecks askChecks listChecks bestDefault holderIn answerFor does checks
+cancellations-sample = record {
+  premise = apart (cancelledAt 9) (uncancelled) (small (brought one 0 (some 9) ∷ [])) (small (brought one 0 none ∷ [])) refl refl (λ s. s .cancellations (cancelled 9) .0 (inl refl));
+  rows = differ (cancelledAt 9) (uncancelled) refl;
+}
+
+events-sample : Missed (uncancelled) (another)
+unfolding historyFrom note quickAccepted quickJoined quickCall quickChecks quickDoes jumps nextMoment idleFor advance second entriesFrom rowsAt rowsFrom rowsWith codeAt holdingAt heldAt taken claim better key drawnStart effectiveEnd effectiveStart usable has cut join big flat rowBytes outOfRange malformed sameEvent find late programChecks eventChecks cancelChecks clockChecks askChecks listChecks bestDefault holderIn answerFor does checks
+events-sample = record {
+  premise = apart (uncancelled) (another) (small (brought one 0 none ∷ [])) (small (brought one 0 none ∷ brought (event 6 0 2 100 10 20) 0 none ∷ [])) refl refl (λ s. other-id (s .events (event 6 0 2 100 10 20) .1 (inr (inl refl))));
+  rows = differ (uncancelled) (another) refl;
+}
+
+fields-sample : Missed (uncancelled) (redrawn)
+unfolding historyFrom note quickAccepted quickJoined quickCall quickChecks quickDoes jumps nextMoment idleFor advance second entriesFrom rowsAt rowsFrom rowsWith codeAt holdingAt heldAt taken claim better key drawnStart effectiveEnd effectiveStart usable has cut join big flat rowBytes outOfRange malformed sameEvent find late programChecks eventChecks cancelChecks clockChecks askChecks listChecks bestDefault holderIn answerFor does checks
+fields-sample = record {
+  premise = apart (uncancelled) (redrawn) (small (brought one 0 none ∷ [])) (small (brought (event 1 0 1 100 11 20) 0 none ∷ [])) refl refl (λ s. other-draw (s .events one .0 (inl refl)));
+  rows = differ (uncancelled) (redrawn) refl;
+}
+
+programs-sample : Missed (ranked 1 2) (ranked 2 1)
+unfolding historyFrom note quickAccepted quickJoined quickCall quickChecks quickDoes jumps nextMoment idleFor advance second entriesFrom rowsAt rowsFrom rowsWith codeAt holdingAt heldAt taken claim better key drawnStart effectiveEnd effectiveStart usable has cut join big flat rowBytes outOfRange malformed sameEvent find late programChecks eventChecks cancelChecks clockChecks askChecks listChecks bestDefault holderIn answerFor does checks
+programs-sample = record {
+  premise = apart (ranked 1 2) (ranked 2 1) (record { programs = added 1 2 1 ∷ added 0 1 1 ∷ []; brought = brought one 0 none ∷ brought (event 5 1 1 100 10 20) 0 none ∷ []; last = 14 }) (record { programs = added 1 1 1 ∷ added 0 2 1 ∷ []; brought = brought one 0 none ∷ brought (event 5 1 1 100 10 20) 0 none ∷ []; last = 14 }) refl refl (λ s. other-program (s .programs (added 0 1 1) .0 (inr (inl refl))));
+  rows = differ (ranked 1 2) (ranked 2 1) refl;
+}
+
+last-sample : Missed (shorter) (longer)
+unfolding historyFrom note quickAccepted quickJoined quickCall quickChecks quickDoes jumps nextMoment idleFor advance second entriesFrom rowsAt rowsFrom rowsWith codeAt holdingAt heldAt taken claim better key drawnStart effectiveEnd effectiveStart usable has cut join big flat rowBytes outOfRange malformed sameEvent find late programChecks eventChecks cancelChecks clockChecks askChecks listChecks bestDefault holderIn answerFor does checks
+last-sample = record {
+  premise = apart (shorter) (longer) (record { programs = first ∷ []; brought = brought one 0 none ∷ brought two 14 none ∷ []; last = 14 }) (record { programs = first ∷ []; brought = brought one 0 none ∷ brought two 14 none ∷ []; last = 15 }) refl refl (λ s. let l : _≡_ {A = ℕ} 14 15 = s .last in omega arith);
+  rows = differ (shorter) (longer) refl;
+}
 
 pub sample : Sample
 unfolding plainly otherwise quickJoined quickCall quickChecks quickDoes jumps nextMoment idleFor advance second entriesFrom rowsAt rowsFrom rowsWith codeAt holdingAt heldAt taken claim better key drawnStart effectiveEnd effectiveStart usable has cut join big flat rowBytes outOfRange malformed sameEvent find late programChecks eventChecks cancelChecks clockChecks askChecks listChecks bestDefault holderIn answerFor does checks
@@ -109,4 +224,11 @@ sample = record {
   lengths = (refl, refl);
   rows = sym (quick-joined fresh sound-fresh plainly) ∙ refl;
   results = arrival-order .same plainly otherwise premise;
+  in-time = in-time-sample;
+  cancellation-clocks = cancellation-clocks-sample;
+  cancellations = cancellations-sample;
+  events = events-sample;
+  fields = fields-sample;
+  programs = programs-sample;
+  last = last-sample;
 }

@@ -1,5 +1,6 @@
 -- Document 01 as definitions, in its order. docs/READING.md maps each clause to its definition and its law.
 pub mod Lists
+pub mod Ascii
 pub mod Records
 pub mod Period
 pub mod Holding
@@ -18,6 +19,14 @@ pub mod Frames
 pub mod Printed
 pub mod Marks
 pub mod Table
+pub mod LineTable
+pub mod TextTable
+pub mod Script
+pub mod CallTable
+pub mod ImageTable
+pub mod FaceTable
+pub mod ScheduleTable
+pub mod MomentTable
 pub mod Edges
 pub mod Example
 pub mod Clauses

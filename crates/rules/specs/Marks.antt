@@ -6,6 +6,7 @@ use lib.Dec.{eqb}
 use lib.ListN.{take, drop, replicate}
 use Rattle.rules.specs.declared.Event.{Event}
 use Rattle.rules.specs.declared.Period.{Period}
+use Rattle.rules.specs.declared.Record.{Record}
 use Rattle.rules.specs.declared.Schedule.{Schedule}
 use Rattle.rules.specs.Period.{periodOf}
 use Rattle.rules.specs.Rows.{Row}
@@ -20,9 +21,10 @@ pub record Reply : Type 0 where
   pub number : ℕ
   pub value : Value
   pub bytes : List ℕ
+  pub records : List Record
 
 abbrev pub replyOf : Outcome → Reply
-replyOf o = record { number = o .number; value = o .value; bytes = o .bytes }
+replyOf o = record { number = o .number; value = o .value; bytes = o .bytes; records = o .records }
 
 -- what a host sees of a list of calls
 unfoldable pub replies : Schedule → List Call → List Reply

@@ -9,6 +9,7 @@ use Rattle.rules.specs.declared.Frame.the-variants as frame
 use Rattle.rules.specs.declared.Line.{Line}
 use Rattle.rules.specs.declared.Line.the-variants.{Good, Bad}
 use Rattle.rules.specs.declared.Schedule.{Schedule}
+use Rattle.rules.specs.Ascii.{ascii}
 use Rattle.rules.specs.Records.{idOf, fresh, pad}
 use Rattle.rules.specs.Bytes.{read}
 use Rattle.rules.specs.Calls.{Value, nothing, code, count, holder, default, nobody, Outcome, call, counted}
@@ -40,7 +41,7 @@ lineFeed = 10 ∷ []
 
 -- refused n
 abbrev pub refusedText : ℕ → List ℕ
-refusedText n = 114 ∷ 101 ∷ 102 ∷ 117 ∷ 115 ∷ 101 ∷ 100 ∷ (space ++ (digits n ++ lineFeed))
+refusedText n = ascii "refused " ++ (digits n ++ lineFeed)
 
 -- three numbers: a clock or a time, an id, a code
 abbrev pub threeText : ℕ → ℕ → ℕ → List ℕ
@@ -65,9 +66,9 @@ abbrev pub askText : ℕ → Value → List ℕ
 askText c nothing = []
 askText c (code k) = []
 askText c (count n) = []
-askText c (holder i) = digits c ++ (space ++ (101 ∷ 118 ∷ 101 ∷ 110 ∷ 116 ∷ (space ++ (digits i ++ lineFeed))))
-askText c (default p) = digits c ++ (space ++ (100 ∷ 101 ∷ 102 ∷ 97 ∷ 117 ∷ 108 ∷ 116 ∷ (space ++ (digits p ++ lineFeed))))
-askText c nobody = digits c ++ (space ++ (110 ∷ 111 ∷ 110 ∷ 101 ∷ lineFeed))
+askText c (holder i) = digits c ++ (ascii " event " ++ (digits i ++ lineFeed))
+askText c (default p) = digits c ++ (ascii " default " ++ (digits p ++ lineFeed))
+askText c nobody = digits c ++ (ascii " none" ++ lineFeed)
 
 -- an accepted frame
 abbrev pub frameText : ℕ → Frame → Outcome → List ℕ

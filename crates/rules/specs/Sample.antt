@@ -1,7 +1,8 @@
 -- Demand 3 is not empty: two lists of calls that differ in order, spacing of the clock, receipt clocks, repeats and refused calls, and meet its premise.
+-- Nor could it ask for less: for each part of the premise two lists that miss it alone, and give other rows.
 use mathlib.Core.Path.{_≡_}
 use Prim.Native.Nat.{ℕ, _-_}
-use mathlib.Core.List.{List, [], _∷_}
+use mathlib.Core.List.{List, [], _∷_, _++_}
 use lib.ListN.{length, replicate}
 use Rattle.rules.specs.declared.Event.{Event}
 use Rattle.rules.specs.Rows.{Row}
@@ -10,12 +11,12 @@ use Rattle.rules.specs.Calls.{Call, addProgram, deliver, cancel, setCloc
 use Rattle.rules.specs.History.{historyOf}
 use Rattle.rules.specs.Arrival.{SameArrivals, SameResults, joinedRows}
 
--- id, controls, creation time, drawn start (the start 3,600 drawn back), duration
-abbrev event : ℕ → ℕ → ℕ → ℕ → ℕ → Event
-event i controls created start duration =
+-- id, program, controls, creation time, drawn start (the start 3,600 drawn back), duration
+abbrev pub event : ℕ → ℕ → ℕ → ℕ → ℕ → ℕ → Event
+event i program controls created start duration =
     record {
       id = record { value = i };
-      program = 0;
+      program = program;
       controls = controls;
       created = created;
       start = 3600;
@@ -28,41 +29,98 @@ event i controls created start duration =
 
 -- 10 to 30 on control 0, cancelled at 12
 abbrev pub one : Event
-one = event 1 1 100 10 20
+one = event 1 0 1 100 10 20
 
 -- 15 to 20 on controls 0 and 1: the better
 abbrev pub two : Event
-two = event 2 3 200 15 5
+two = event 2 0 3 200 15 5
 
 -- the id of `one` again, after its end: 40 to 45
 abbrev pub three : Event
-three = event 1 1 100 40 5
+three = event 1 0 1 100 40 5
 
 -- 16 to 30 on controls 1 and 2: it begins under `two`, and holds what is left
 abbrev pub four : Event
-four = event 4 6 150 16 14
+four = event 4 0 6 150 16 14
+
+-- 12 to 22 on control 1, of the lesser program, created last: it holds until `two` begins
+abbrev pub five : Event
+five = event 5 1 2 300 12 10
 
 abbrev room : List ℕ
 room = replicate 136 7
 
 unfoldable pub plainly : List Call
 plainly =
-    addProgram 0 1 1 ∷ deliver one ∷ deliver two ∷ deliver four ∷ setClock 12 room ∷ cancel 1 ∷ setClock 33 room ∷ deliver three ∷ setClock 42 room ∷ []
+    addProgram 0 1 1 ∷ addProgram 1 2 0 ∷ deliver one ∷ deliver two ∷ deliver four ∷ deliver five ∷ setClock 12 room ∷ cancel 1 ∷ setClock 33 room ∷ deliver three ∷ setClock 42 room ∷ []
 
--- an id that is not held, events in another order and at other clocks, repeats of a program, of events and of a cancellation, short buffers and lists
+-- programs and events in another order, each event at the last clock that is in time, an id that is not held, repeats of a program, of events and of a cancellation, short
+-- buffers and lists
 unfoldable pub otherwise : List Call
 otherwise =
-    cancel 9 ∷ addProgram 0 1 1 ∷ setClock 5 [] ∷ deliver four ∷ deliver two ∷ ask 0 ∷ deliver one ∷ deliver two ∷ addProgram 0 1 1 ∷ setClock 12 [] ∷ setClock 12 room
-    ∷ cancel 1 ∷ setClock 13 room ∷ cancel 1 ∷ deliver one ∷ setClock 31 room ∷ deliver three ∷ list [] ∷ setClock 42 room ∷ []
+    cancel 9 ∷ addProgram 1 2 0 ∷ setClock 5 [] ∷ addProgram 0 1 1 ∷ setClock 9 room ∷ ask 0 ∷ deliver one ∷ addProgram 0 1 1 ∷ setClock 11 [] ∷ setClock 11 room ∷ deliver five ∷ deliver one
+    ∷ setClock 12 room ∷ cancel 1 ∷ setClock 14 room ∷ cancel 1 ∷ deliver two ∷ setClock 15 room ∷ deliver four ∷ deliver one ∷ setClock 39 room ∷ deliver three ∷ list []
+    ∷ setClock 42 room ∷ []
 
 abbrev row : ℕ → ℕ → ℕ → Row
 row t i k = record { time = t; id = i; code = k }
+
+-- two lists that do not meet the premise, and do not give the same rows
+pub record Missed (a b : List Call) : Type 0 where
+  pub premise : SameArrivals (historyOf a) (historyOf b) → ⊥
+  pub rows : joinedRows a ≡ joinedRows b → ⊥
+
+-- program 0, and calls up to 14
+abbrev with : List Call → List Call
+with cs = addProgram 0 1 1 ∷ (cs ++ (setClock 14 room ∷ []))
+
+-- `one` a second before its drawn start
+abbrev pub prompt : List Call
+prompt = with (setClock 9 room ∷ deliver one ∷ [])
+
+-- and at it
+abbrev pub tardy : List Call
+tardy = with (setClock 10 room ∷ deliver one ∷ [])
+
+-- cancelled before its start, a second later, never
+abbrev pub cancelledAt : ℕ → List Call
+cancelledAt t = with (deliver one ∷ setClock t room ∷ cancel 1 ∷ [])
+
+abbrev pub uncancelled : List Call
+uncancelled = with (deliver one ∷ [])
+
+-- one event more
+abbrev pub another : List Call
+another = with (deliver one ∷ deliver (event 6 0 2 100 10 20) ∷ [])
+
+-- the same event with another draw
+abbrev pub redrawn : List Call
+redrawn = with (deliver (event 1 0 1 100 11 20) ∷ [])
+
+-- a second longer
+abbrev pub longer : List Call
+longer = with (deliver one ∷ []) ++ (deliver two ∷ setClock 15 room ∷ [])
+
+abbrev pub shorter : List Call
+shorter = with (deliver one ∷ []) ++ (deliver two ∷ setClock 14 room ∷ [])
+
+-- `one` and `five`'s like on control 0, of programs with these primacies
+abbrev pub ranked : ℕ → ℕ → List Call
+ranked p q = addProgram 0 p 1 ∷ addProgram 1 q 1 ∷ deliver one ∷ deliver (event 5 1 1 100 10 20) ∷ setClock 14 room ∷ []
 
 pub record Sample : Type 0 where
   -- they meet the premise
   pub premise : SameArrivals (historyOf plainly) (historyOf otherwise)
   -- they differ
-  pub lengths : (length plainly ≡ 9) × (length otherwise ≡ 19)
+  pub lengths : (length plainly ≡ 11) × (length otherwise ≡ 24)
   -- and these are the joined rows of both
-  pub rows : joinedRows plainly ≡ bytes (row 10 1 2 ∷ row 15 2 2 ∷ row 16 4 2 ∷ row 20 2 3 ∷ row 30 4 3 ∷ row 40 1 2 ∷ [])
+  pub rows : joinedRows plainly ≡ bytes (row 10 1 2 ∷ row 12 5 2 ∷ row 15 5 7 ∷ row 15 2 2 ∷ row 16 4 2 ∷ row 20 2 3 ∷ row 30 4 3 ∷ row 40 1 2 ∷ [])
   pub results : SameResults plainly otherwise
+  -- each part of the premise is needed: receipt before the drawn start, cancellations and their clocks, events with every field, programs, the last reading
+  pub in-time : Missed prompt tardy
+  pub cancellation-clocks : Missed (cancelledAt 9) (cancelledAt 10)
+  pub cancellations : Missed (cancelledAt 9) uncancelled
+  pub events : Missed uncancelled another
+  pub fields : Missed uncancelled redrawn
+  pub programs : Missed (ranked 1 2) (ranked 2 1)
+  pub last : Missed shorter longer

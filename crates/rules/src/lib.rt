@@ -13,6 +13,15 @@ ghost use Rattle.rules.specs.Marks.{allHold, edgesHold, replies};
 ghost use Rattle.rules.specs.Table.{table};
 ghost use Rattle.rules.specs.Edges.{edges};
 ghost use Rattle.rules.specs.Example.{exampleInput, exampleOutput};
+ghost use Rattle.rules.specs.LineTable.{linesHold, lineTable};
+ghost use Rattle.rules.specs.TextTable.{textInput, textOutput};
+ghost use Rattle.rules.specs.Script.{scriptsHold};
+ghost use Rattle.rules.specs.CallTable.{callTable};
+ghost use Rattle.rules.specs.ImageTable.{ImageTables};
+ghost use Rattle.rules.specs.FaceTable.{FaceTables};
+ghost use Rattle.rules.specs.History.{historyOf};
+ghost use Rattle.rules.specs.ScheduleTable.{schedulesHold, scheduleTable, historiesHold, historyTable};
+ghost use Rattle.rules.specs.MomentTable.{momentsHold, momentTable};
 
 mod times;
 
@@ -180,6 +189,46 @@ pub fn number_edges()
 // Frames and image. The worked example: what the program writes for the lines that it reads.
 pub fn worked_example()
     ensures { λ _. ⌜ output exampleInput ≡ exampleOutput ⌝ }
+{}
+
+// Calls: what each answers and leaves in what is lent to it, call after call.
+pub fn calls_answered()
+    ensures { λ _. ⌜ scriptsHold (replies (pad fresh)) callTable ≡ true ⌝ }
+{}
+
+// Call lists: what a list brings.
+pub fn histories_brought()
+    ensures { λ _. ⌜ historiesHold historyOf historyTable ≡ true ⌝ }
+{}
+
+// Call lists: the rows and the held events that the rules give for what was brought.
+pub fn schedules_worked_out()
+    ensures { λ _. ⌜ schedulesHold scheduleTable ≡ true ⌝ }
+{}
+
+// Frames and image: the seconds after an accepted state, one by one.
+pub fn moments_passed()
+    ensures { λ _. ⌜ momentsHold momentTable ≡ true ⌝ }
+{}
+
+// Frames and image: each kind of frame with its fields, and lines that are no frame.
+pub fn lines_read()
+    ensures { λ _. ⌜ linesHold lineTable ≡ true ⌝ }
+{}
+
+// Frames and image: every text that the program prints, line after line.
+pub fn texts_printed()
+    ensures { λ _. ⌜ output textInput ≡ textOutput ⌝ }
+{}
+
+// Frames and image: each rule of an image kept by one and broken by one, and each byte where it stands.
+pub fn images_tried()
+    ensures { λ _. ⌜ ImageTables ⌝ }
+{}
+
+// Frames and image, C hosts: what each operation returns and leaves, on both sides of each length.
+pub fn operations_tried()
+    ensures { λ _. ⌜ FaceTables ⌝ }
 {}
 
 // Document 01's clauses, one by one, of the definitions.

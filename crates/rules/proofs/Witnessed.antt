@@ -1,0 +1,77 @@
+-- Calls, schedules, lines, texts and images, by evaluation; calls and lines by the run that passes over quiet moments.
+use mathlib.Core.Path.{_≡_, refl, sym, ap, _∙_, fun-ext}
+use mathlib.Core.Bool.{true}
+use Rattle.rules.specs.Records.{usable, has, cut, join, fresh, pad}
+use Rattle.rules.specs.Period.{drawnStart, effectiveEnd, effectiveStart}
+use Rattle.rules.specs.Holding.{key, better, claim, taken, heldAt, holdingAt}
+use Rattle.rules.specs.Rows.{codeAt, rowsWith, rowsFrom, rowsAt}
+use Rattle.rules.specs.Moments.{entriesFrom, second, advance}
+use Rattle.rules.specs.Bytes.{big, read, flat, many, rowBytes, eventAt, eventBytes, entryBytes, entryAt}
+use Rattle.rules.specs.Sound.{outOfRange, malformed, sameEvent, whole, withinLimits, soundProgram, unused, ascending, ofProgram, wellFormed, inPeriod, lasting, carried, heldSinceStart, noneIfCancelled, apart, soundEntry, sound}
+use Rattle.rules.specs.Image.{programBytes, programFrom, image, loaded, marked, formed, imaged}
+use Rattle.rules.specs.ImageTable.{rulesHold, ruleTable, bytesHold, formsHold, formTable, refusedImages, numbersHold, numberTable, ImageTables}
+use Rattle.rules.specs.Refusals.{find, late, programChecks, eventChecks, cancelChecks, clockChecks, askChecks, listChecks}
+use Rattle.rules.specs.Calls.{bestDefault, holderIn, answerFor, does, checks, refusal, call}
+use Rattle.rules.specs.Frames.{digit, paired, unhex, isFrame, frameOf, lineOf}
+use Rattle.rules.specs.Printed.{linesOf, decimal, rowsText, output}
+use Rattle.rules.specs.LineTable.{lineTable, linesHold}
+use Rattle.rules.specs.TextTable.{textInput, textOutput}
+use Rattle.rules.specs.Script.{scriptsHold}
+use Rattle.rules.specs.CallTable.{callTable}
+use Rattle.rules.specs.Schedules.{holding, rowsTo, heldEvents}
+use Rattle.rules.specs.ScheduleTable.{schedulesHold, scheduleTable}
+use Rattle.rules.specs.MomentTable.{momentsHold, momentTable}
+use Rattle.rules.specs.Marks.{same, replies}
+use Rattle.rules.proofs.SoundKept.{sound-fresh}
+use Rattle.rules.proofs.Jump.{jumps, nextMoment, idleFor}
+use Rattle.rules.proofs.Quick.{quickChecks, quickDoes, quickCall, quickReplies, quick-replies, quickTellFrame, quickTellAll, quick-tell}
+use Rattle.rules.proofs.Evaluated.{same-lists}
+
+pub lines-evaluate : linesHold lineTable ≡ true
+unfolding linesHold lineTable digit paired unhex isFrame frameOf lineOf read eventAt
+lines-evaluate = refl
+
+calls-evaluate : scriptsHold (quickReplies fresh) callTable ≡ true
+unfolding scriptsHold callTable quickReplies quickCall quickChecks quickDoes jumps nextMoment idleFor advance second entriesFrom rowsAt rowsFrom rowsWith codeAt holdingAt heldAt taken claim better key drawnStart effectiveEnd effectiveStart usable has cut join big flat rowBytes outOfRange malformed sameEvent find late programChecks eventChecks cancelChecks clockChecks askChecks listChecks bestDefault holderIn answerFor does checks
+calls-evaluate = refl
+
+pub calls-answered : scriptsHold (replies (pad fresh)) callTable ≡ true
+calls-answered = ap (λ see. scriptsHold see callTable) (sym (fun-ext (quick-replies fresh sound-fresh))) ∙ calls-evaluate
+
+texts-evaluate : same (quickTellAll fresh (linesOf textInput)) textOutput ≡ true
+unfolding linesOf decimal rowsText digit paired unhex isFrame frameOf lineOf read eventAt textInput textOutput quickTellAll quickTellFrame quickCall quickChecks quickDoes jumps nextMoment idleFor advance second entriesFrom rowsAt rowsFrom rowsWith codeAt holdingAt heldAt taken claim better key drawnStart effectiveEnd effectiveStart usable has cut join big flat rowBytes outOfRange malformed sameEvent find late programChecks eventChecks cancelChecks clockChecks askChecks listChecks bestDefault holderIn answerFor does checks
+texts-evaluate = refl
+
+pub texts-printed : output textInput ≡ textOutput
+texts-printed = sym (quick-tell fresh sound-fresh (linesOf textInput)) ∙ same-lists (quickTellAll fresh (linesOf textInput)) textOutput texts-evaluate
+
+rules-evaluate : rulesHold ruleTable ≡ true
+unfolding rulesHold ruleTable usable cut drawnStart effectiveEnd outOfRange malformed sameEvent whole withinLimits soundProgram unused ascending ofProgram wellFormed inPeriod lasting carried heldSinceStart noneIfCancelled apart soundEntry sound
+rules-evaluate = refl
+
+bytes-evaluate : bytesHold ≡ true
+unfolding bytesHold big read flat many rowBytes eventAt eventBytes entryBytes entryAt programBytes programFrom image loaded
+bytes-evaluate = refl
+
+forms-evaluate : formsHold formTable ≡ true
+unfolding formsHold formTable read marked formed
+forms-evaluate = refl
+
+images-evaluate : refusedImages ≡ true
+unfolding refusedImages read many programFrom eventAt entryAt loaded marked formed imaged whole withinLimits sound
+images-evaluate = refl
+
+numbers-evaluate : numbersHold numberTable ≡ true
+unfolding numbersHold numberTable call refusal checks does advance usable cut has drawnStart effectiveEnd effectiveStart outOfRange malformed sameEvent find late programChecks eventChecks cancelChecks clockChecks askChecks listChecks bestDefault holderIn answerFor whole withinLimits soundProgram unused ascending ofProgram wellFormed inPeriod lasting carried heldSinceStart noneIfCancelled apart soundEntry sound
+numbers-evaluate = refl
+
+pub image-tables : ImageTables
+image-tables = record { rules = rules-evaluate; bytes = bytes-evaluate; forms = forms-evaluate; refused = images-evaluate; numbers = numbers-evaluate }
+
+pub schedules-evaluate : schedulesHold scheduleTable ≡ true
+unfolding schedulesHold scheduleTable holding rowsTo heldEvents rowsAt rowsFrom rowsWith codeAt holdingAt heldAt taken claim better key drawnStart effectiveEnd effectiveStart cut join
+schedules-evaluate = refl
+
+pub moments-evaluate : momentsHold momentTable ≡ true
+unfolding momentsHold momentTable advance second entriesFrom rowsAt rowsFrom rowsWith codeAt holdingAt heldAt taken claim better key drawnStart effectiveEnd cut join
+moments-evaluate = refl

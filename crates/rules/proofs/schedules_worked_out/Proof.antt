@@ -1,0 +1,10 @@
+-- The promise is the theorem: the table was evaluated.
+use Rattle.rules.proofs.Witnessed.{schedules-evaluate}
+use Rattle.rules.proofs.schedules_worked_out.Statement.{statement}
+use Rattle.rules.proofs.schedules_worked_out.Tie as tie
+
+returns : tie.Need-returns
+returns c = schedules-evaluate
+
+pub schedules-worked-out-spec : {M : Type 1} → statement M
+schedules-worked-out-spec = tie.close (tie.spec returns)

@@ -1,0 +1,172 @@
+-- What calls answer: codes, holders, defaults, rows, listings, cancellations. Each script starts from the fresh schedule.
+use Prim.Native.Nat.{ℕ}
+use mathlib.Core.Bool.{Bool, true, false}
+use mathlib.Core.List.{List, [], _∷_, _++_}
+use lib.ListN.{replicate}
+use Rattle.rules.specs.declared.Event.{Event}
+use Rattle.rules.specs.declared.Record.{Record}
+use Rattle.rules.specs.Calls.{Call, addProgram, deliver, cancel, setClock, ask, list, code, count, holder, default, nobody}
+use Rattle.rules.specs.Script.{Step, _answers_, _refused_}
+
+-- id, program, controls, creation time, start, duration; nothing drawn
+abbrev event : ℕ → ℕ → ℕ → ℕ → ℕ → ℕ → Event
+event i program controls created start duration =
+    record {
+      id = record { value = i };
+      program = program;
+      controls = controls;
+      created = created;
+      start = start;
+      duration = duration;
+      «randomize_start» = 0;
+      «randomize_duration» = 0;
+      «start_draw» = 0;
+      «duration_draw» = 0;
+    }
+
+-- a row's bytes, its time, id and code below 2 ^ 16, 2 ^ 8 and 2 ^ 8
+abbrev row : ℕ → ℕ → ℕ → ℕ → List ℕ
+row t1 t0 i k = 0 ∷ 0 ∷ 0 ∷ 0 ∷ 0 ∷ 0 ∷ t1 ∷ t0 ∷ 0 ∷ 0 ∷ 0 ∷ 0 ∷ 0 ∷ 0 ∷ 0 ∷ i ∷ k ∷ []
+
+-- a reading into a buffer of `room` bytes, all 77: how many rows, their bytes, and how many bytes stay as they were
+abbrev reads : ℕ → ℕ → ℕ → List ℕ → ℕ → Step
+reads t room n rows rest = record { call = setClock t (replicate room 77); number = 0; value = count n; bytes = rows ++ replicate rest 77; records = [] }
+
+-- a held event: its effective start, held mask, cancelled mark
+abbrev held : Event → ℕ → ℕ → Bool → Record
+held e begins mask gone = record { entry = record { event = e; begins = begins; held = mask; cancelled = gone } }
+
+-- a place of a lent list before it is written to
+abbrev place : Record
+place = held (event 99 9 99 99 99 99) 99 99 true
+
+-- a listing into `room` places: how many records, and how many places stay as they were
+abbrev lists : ℕ → ℕ → List Record → ℕ → Step
+lists room n rs rest = record { call = list (replicate room place); number = 0; value = count n; bytes = []; records = rs ++ replicate rest place }
+
+-- an event of two controls, and one that is better on the first of them
+abbrev wide : Event
+wide = event 2 1 3 0 5000 100
+
+abbrev narrow : Event
+narrow = event 1 0 1 0 5050 100
+
+-- codes: 0 for a program, 1 and then 0 for an event, 6 and then 0 for its cancellation; cancelled or not, it stays held until its end
+abbrev codes : List Step
+codes =
+    (addProgram 0 0 0 answers code 0)
+    ∷ (addProgram 1 1 4 answers code 0)
+    ∷ (deliver wide answers code 1)
+    ∷ (deliver wide answers code 0)
+    ∷ (cancel 2 answers code 6)
+    ∷ (cancel 2 answers code 0)
+    ∷ (deliver wide answers code 0)
+    ∷ (cancel 1 refused 11)
+    ∷ (deliver narrow answers code 1)
+    ∷ reads 5000 0 0 [] 0
+    ∷ (cancel 2 answers code 0)
+    ∷ reads 5050 18 1 (row 0x13 0xBA 1 2) 1
+    ∷ lists 3 2 (held narrow 5050 1 false ∷ held wide 5000 0 true ∷ []) 1
+    ∷ (cancel 1 answers code 6)
+    ∷ lists 2 2 (held narrow 5050 0 true ∷ held wide 5000 0 true ∷ []) 0
+    ∷ (list (place ∷ []) refused 13)
+    ∷ reads 5100 1 0 [] 1
+    ∷ lists 1 1 (held narrow 5050 0 true ∷ []) 0
+    ∷ (cancel 2 refused 11)
+    ∷ []
+
+-- holders: one of two controls is lost to a better event and not got back; nobody holds what nobody carries
+abbrev holders : List Step
+holders =
+    (addProgram 0 0 0 answers code 0)
+    ∷ (addProgram 1 1 5 answers code 0)
+    ∷ (deliver narrow answers code 1)
+    ∷ (deliver wide answers code 1)
+    ∷ (ask 0 answers default 1)
+    ∷ (ask 1 answers nobody)
+    ∷ (ask 2 answers default 1)
+    ∷ reads 5049 17 1 (row 0x13 0x88 2 2) 0
+    ∷ (ask 0 answers holder 2)
+    ∷ (ask 1 answers holder 2)
+    ∷ lists 4 2 (held narrow 5050 0 false ∷ held wide 5000 3 false ∷ []) 2
+    ∷ reads 5050 20 1 (row 0x13 0xBA 1 2) 3
+    ∷ (ask 0 answers holder 1)
+    ∷ (ask 1 answers holder 2)
+    ∷ lists 2 2 (held narrow 5050 1 false ∷ held wide 5000 2 false ∷ []) 0
+    ∷ (setClock 5150 (replicate 33 77) refused 13)
+    ∷ reads 5150 34 2 (row 0x13 0xEC 2 3 ++ row 0x14 0x1E 1 3) 0
+    ∷ (ask 0 answers default 1)
+    ∷ lists 1 0 [] 1
+    ∷ []
+
+-- defaults of three programs: the lower primacy, of equal ones the smaller number, of those that carry the control
+abbrev defaults : List Step
+defaults =
+    (ask 0 answers nobody)
+    ∷ (addProgram 1 65 0b10111 answers code 0)
+    ∷ (ask 0 answers default 1)
+    ∷ (addProgram 5 2 0b01011 answers code 0)
+    ∷ (ask 0 answers default 5)
+    ∷ (addProgram 3 2 0b00001 answers code 0)
+    ∷ (ask 0 answers default 3)
+    ∷ (addProgram 7 191 0b11111 answers code 0)
+    ∷ (ask 0 answers default 3)
+    ∷ (ask 1 answers default 5)
+    ∷ (ask 2 answers default 1)
+    ∷ (ask 3 answers default 5)
+    ∷ (ask 4 answers default 1)
+    ∷ (ask 5 answers nobody)
+    ∷ (addProgram 0 2 0b00010 answers code 0)
+    ∷ (ask 1 answers default 0)
+    ∷ []
+
+-- one moment, 5100, with two rows of each code, ids against the order of delivery: 10 and 30 end, 20 and 40 lose their only control to 50 and 5, which start
+abbrev moment : List Step
+moment =
+    (addProgram 0 0 0 answers code 0)
+    ∷ (addProgram 1 1 0 answers code 0)
+    ∷ (deliver (event 30 1 1 0 5000 100) answers code 1)
+    ∷ (deliver (event 10 1 2 0 5000 100) answers code 1)
+    ∷ (deliver (event 40 1 4 0 5000 200) answers code 1)
+    ∷ (deliver (event 20 1 8 0 5000 200) answers code 1)
+    ∷ (deliver (event 50 0 4 0 5100 200) answers code 1)
+    ∷ (deliver (event 5 0 8 0 5100 200) answers code 1)
+    ∷ reads 5099 68 4 (row 0x13 0x88 10 2 ++ (row 0x13 0x88 20 2 ++ (row 0x13 0x88 30 2 ++ row 0x13 0x88 40 2))) 0
+    ∷ reads 5100 103 6 (
+    row 0x13 0xEC 10 3 ++ (row 0x13 0xEC 30 3 ++ (row 0x13 0xEC 20 7 ++ (row 0x13 0xEC 40 7 ++ (row 0x13 0xEC 5 2 ++ row 0x13 0xEC 50 2))))
+    ) 1
+    ∷ reads 9000000000 34 2 (row 0x14 0xB4 5 3 ++ row 0x14 0xB4 50 3) 0
+    ∷ []
+
+-- a cancellation at 5000: the event holds that second, gives its 2 and nothing after; a worse event is kept out that second for good, one that starts a second later is not
+abbrev cancelled : List Step
+cancelled =
+    (addProgram 0 0 1 answers code 0)
+    ∷ (deliver (event 9 0 1 0 5000 100) answers code 1)
+    ∷ (deliver (event 8 0 1 0 5000 100) answers code 1)
+    ∷ (deliver (event 7 0 1 0 5001 100) answers code 1)
+    ∷ reads 5000 34 2 (row 0x13 0x88 8 7 ++ row 0x13 0x88 9 2) 0
+    ∷ (ask 0 answers holder 9)
+    ∷ (cancel 9 answers code 6)
+    ∷ (ask 0 answers default 0)
+    ∷ reads 5001 17 1 (row 0x13 0x89 7 2) 0
+    ∷ (ask 0 answers holder 7)
+    ∷ lists 3 3 (held (event 7 0 1 0 5001 100) 5001 1 false ∷ held (event 8 0 1 0 5000 100) 5000 0 false ∷ held (event 9 0 1 0 5000 100) 5000 0 true ∷ []) 0
+    ∷ reads 5200 17 1 (row 0x13 0xED 7 3) 0
+    ∷ []
+
+-- an event first accepted after its start begins at the next second and ends as it would have
+abbrev late : List Step
+late =
+    (addProgram 0 0 0 answers code 0)
+    ∷ reads 5050 0 0 [] 0
+    ∷ (deliver (event 3 0 1 0 5000 100) answers code 1)
+    ∷ lists 1 1 (held (event 3 0 1 0 5000 100) 5051 0 false ∷ []) 0
+    ∷ (ask 0 answers nobody)
+    ∷ reads 5051 17 1 (row 0x13 0xBB 3 2) 0
+    ∷ (ask 0 answers holder 3)
+    ∷ reads 5100 17 1 (row 0x13 0xEC 3 3) 0
+    ∷ []
+
+unfoldable pub callTable : List (List Step)
+callTable = codes ∷ holders ∷ defaults ∷ moment ∷ cancelled ∷ late ∷ []

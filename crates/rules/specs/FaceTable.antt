@@ -1,0 +1,182 @@
+-- The C face: what each operation returns and leaves in the lent bytes, on both sides of each length.
+use mathlib.Core.Path.{_≡_}
+use Prim.Native.Nat.{ℕ, _-_}
+use mathlib.Core.Bool.{Bool, true, _&&_}
+use mathlib.Core.List.{List, [], _∷_, _++_}
+use lib.Dec.{eqb}
+use lib.ListN.{replicate}
+use Rattle.rules.specs.declared.Event.{Event}
+use Rattle.rules.specs.Lists.{overAt, All}
+use Rattle.rules.specs.Records.{fresh, pad}
+use Rattle.rules.specs.Calls.{Call, addProgram, deliver, cancel, setClock, run}
+use Rattle.rules.specs.Image.{loaded, imaged}
+use Rattle.rules.specs.Face.{Operation, addsProgram, delivers, cancels, setsClock, asks, lists, FaceOutcome, face, faceFresh}
+use Rattle.rules.specs.Marks.{same}
+
+-- an operation after calls by value: what is lent to it, what it returns, what the lent bytes hold then
+pub record FaceCase : Type 0 where
+  pub before : List Call
+  pub operation : Operation
+  pub lent : List ℕ
+  pub returned : ℕ
+  pub after : List ℕ
+
+-- so it is with every image of the schedule after these calls
+pub record FaceHolds (c : FaceCase) : Type 0 where
+  pub returned : (l : List ℕ) → imaged l ≡ true → loaded l ≡ run (pad fresh) (c .before) → face l (c .operation) (c .lent) .returned ≡ c .returned
+  pub lent : (l : List ℕ) → imaged l ≡ true → loaded l ≡ run (pad fresh) (c .before) → face l (c .operation) (c .lent) .lent ≡ c .after
+
+-- an event whose bytes can be told apart: from 5000 to 5100 on controls 0 and 1
+abbrev one : Event
+one =
+    record {
+      id = record { value = 0x0102030405060708 };
+      program = 7;
+      controls = 0x03;
+      created = 0x0A0B0C0D;
+      start = 5000;
+      duration = 100;
+      «randomize_start» = 1;
+      «randomize_duration» = 2;
+      «start_draw» = 0;
+      «duration_draw» = 0;
+    }
+
+-- the same on control 2, under a larger id
+abbrev two : Event
+two =
+    record {
+      id = record { value = 0x1112131415161718 };
+      program = 0;
+      controls = 0x04;
+      created = 0;
+      start = 6000;
+      duration = 100;
+      «randomize_start» = 0;
+      «randomize_duration» = 0;
+      «start_draw» = 0;
+      «duration_draw» = 0;
+    }
+
+-- their entries at 5000
+abbrev oneBytes : List ℕ
+oneBytes =
+    1 ∷ 2 ∷ 3 ∷ 4 ∷ 5 ∷ 6 ∷ 7 ∷ 8 ∷ 7 ∷ 0 ∷ 0 ∷ 0 ∷ 3 ∷ 0x0A ∷ 0x0B ∷ 0x0C ∷ 0x0D ∷ 0 ∷ 0 ∷ 0x13 ∷ 0x88 ∷ 0 ∷ 0 ∷ 0 ∷ 100
+    ∷ 0 ∷ 1 ∷ 0 ∷ 2 ∷ 0 ∷ 0 ∷ 0 ∷ 0 ∷ 0 ∷ 0 ∷ 0 ∷ 0 ∷ 0 ∷ 0 ∷ 0x13 ∷ 0x88 ∷ 0 ∷ 0 ∷ 0 ∷ 3 ∷ 0 ∷ []
+
+abbrev twoBytes : List ℕ
+twoBytes =
+    0x11 ∷ 0x12 ∷ 0x13 ∷ 0x14 ∷ 0x15 ∷ 0x16 ∷ 0x17 ∷ 0x18 ∷ 0 ∷ 0 ∷ 0 ∷ 0 ∷ 4 ∷ 0 ∷ 0 ∷ 0 ∷ 0 ∷ 0 ∷ 0 ∷ 0x17 ∷ 0x70 ∷ 0 ∷ 0 ∷ 0 ∷ 100
+    ∷ 0 ∷ 0 ∷ 0 ∷ 0 ∷ 0 ∷ 0 ∷ 0 ∷ 0 ∷ 0 ∷ 0 ∷ 0 ∷ 0 ∷ 0 ∷ 0 ∷ 0x17 ∷ 0x70 ∷ 0 ∷ 0 ∷ 0 ∷ 0 ∷ 0 ∷ []
+
+-- a row: time 5000, the id of `one`, code 2
+abbrev startRow : List ℕ
+startRow = 0 ∷ 0 ∷ 0 ∷ 0 ∷ 0 ∷ 0 ∷ 0x13 ∷ 0x88 ∷ 1 ∷ 2 ∷ 3 ∷ 4 ∷ 5 ∷ 6 ∷ 7 ∷ 8 ∷ 2 ∷ []
+
+-- lent bytes, as they came in
+abbrev room : ℕ → List ℕ
+room n = replicate n 77
+
+-- program 0 has a default for control 8, program 7 for control 9
+abbrev programs : List Call
+programs = addProgram 0 0 0x100 ∷ addProgram 7 1 0x200 ∷ []
+
+abbrev told : List Call
+told = programs ++ (deliver one ∷ [])
+
+abbrev begun : List Call
+begun = told ++ (setClock 5000 (replicate 17 0) ∷ [])
+
+abbrev both : List Call
+both = begun ++ (deliver two ∷ [])
+
+-- after, operation, lent, returned, what is lent then
+abbrev case : List Call → Operation → List ℕ → ℕ → List ℕ → FaceCase
+case before op lent returned after = record { before = before; operation = op; lent = lent; returned = returned; after = after }
+
+-- an operation that leaves the lent bytes
+abbrev leaves : List Call → Operation → List ℕ → ℕ → FaceCase
+leaves before op lent returned = case before op lent returned lent
+
+-- -n on 32 bits
+abbrev minus : ℕ → ℕ
+minus n = 4294967296 - n
+
+unfoldable pub faceTable : List FaceCase
+faceTable =
+    -- a program
+    leaves [] (addsProgram 7 1 0x200) [] 0
+    ∷ leaves [] (addsProgram 7 1 0x200) (room 3) 0
+    ∷ leaves [] (addsProgram 8 1 0x200) [] (minus 3)
+    ∷ leaves programs (addsProgram 7 1 0x200) [] (minus 4)
+    ∷ leaves programs (addsProgram 6 3 0x200) (room 3) (minus 5)
+    -- an event: new, again, refused
+    ∷ leaves programs (delivers one) [] 1
+    ∷ leaves programs (delivers one) (room 3) 1
+    ∷ leaves told (delivers one) [] 0
+    ∷ leaves [] (delivers one) (room 3) (minus 6)
+    -- a cancellation: the first, another, of an id that is not held
+    ∷ leaves told (cancels 0x0102030405060708) [] 6
+    ∷ leaves told (cancels 0x0102030405060708) (room 3) 6
+    ∷ leaves (told ++ (cancel 0x0102030405060708 ∷ [])) (cancels 0x0102030405060708) [] 0
+    ∷ leaves told (cancels 1) (room 3) (minus 11)
+    -- a reading: without a row, with a row in 16, 17 and 18 bytes, before the clock
+    ∷ leaves told (setsClock 4999) [] 0
+    ∷ leaves told (setsClock 5000) (room 16) (minus 13)
+    ∷ case told (setsClock 5000) (room 17) 1 startRow
+    ∷ case told (setsClock 5000) (room 18) 1 (startRow ++ room 1)
+    ∷ leaves begun (setsClock 4999) (room 17) (minus 12)
+    -- a question: the holder's id in 7, 8 and 9 bytes; a default and nobody in no byte; a control that is none
+    ∷ leaves begun (asks 0) [] (minus 13)
+    ∷ leaves begun (asks 0) (room 7) (minus 13)
+    ∷ case begun (asks 0) (room 8) 1 (1 ∷ 2 ∷ 3 ∷ 4 ∷ 5 ∷ 6 ∷ 7 ∷ 8 ∷ [])
+    ∷ case begun (asks 1) (room 9) 1 (1 ∷ 2 ∷ 3 ∷ 4 ∷ 5 ∷ 6 ∷ 7 ∷ 8 ∷ 77 ∷ [])
+    ∷ leaves begun (asks 8) [] 2
+    ∷ leaves begun (asks 9) (room 9) 9
+    ∷ leaves begun (asks 2) [] 0
+    ∷ leaves begun (asks 31) (room 9) 0
+    ∷ leaves begun (asks 32) [] (minus 14)
+    -- a listing: of nothing, of one record in 45, 46 and 47 bytes, of two in 91, 92 and 93
+    ∷ leaves programs lists [] 0
+    ∷ leaves programs lists (room 3) 0
+    ∷ leaves begun lists (room 45) (minus 13)
+    ∷ case begun lists (room 46) 1 oneBytes
+    ∷ case begun lists (room 47) 1 (oneBytes ++ room 1)
+    ∷ leaves both lists (room 91) (minus 13)
+    ∷ case both lists (room 92) 2 (oneBytes ++ twoBytes)
+    ∷ case both lists (room 93) 2 (oneBytes ++ (twoBytes ++ room 1))
+    ∷ []
+
+-- Images that are none: the wrong length, a count of 49. Number 2 stands before every other, and nothing changes. And the fresh image, into 2,264, 2,265 and 2,266 bytes.
+
+abbrev is : FaceOutcome → ℕ → List ℕ → List ℕ → Bool
+is o returned image lent = eqb (o .returned) returned && same (o .image) image && same (o .lent) lent
+
+-- whether an operation on such bytes is refused with 2
+abbrev refuses : List ℕ → Operation → Bool
+refuses l op = is (face l op (room 9)) (minus 2) l (room 9)
+
+abbrev short : List ℕ
+short = replicate 2264 0
+
+abbrev overfull : List ℕ
+overfull = overAt 8 (49 ∷ []) (replicate 2265 0)
+
+unfoldable pub noImage : Bool
+noImage =
+    refuses short (addsProgram 8 1 0)
+    && refuses short (delivers one)
+    && refuses short (cancels 1)
+    && refuses short (setsClock 9000000001)
+    && refuses short (asks 32)
+    && refuses short lists
+    && refuses overfull (asks 0)
+    && is (faceFresh (room 2264)) (minus 2) (room 2264) []
+    && is (faceFresh (room 2265)) 0 (replicate 2265 0) []
+    && is (faceFresh (room 2266)) (minus 2) (room 2266) []
+
+pub record FaceTables : Type 0 where
+  -- each operation, on every image of its schedule
+  pub cases : All FaceHolds faceTable
+  -- bytes that are no image, and the fresh image
+  pub no-image : noImage ≡ true

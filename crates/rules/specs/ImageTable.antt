@@ -1,0 +1,356 @@
+-- Images: every rule kept by one and broken by one; lengths and marks; the bytes of an image, each where it stands.
+use mathlib.Core.Path.{_≡_}
+use Prim.Native.Nat.{ℕ, zero, suc, _+_, _-_}
+use mathlib.Core.Bool.{Bool, true, false, cond, not, _&&_, _||_}
+use mathlib.Core.List.{List, [], _∷_, _++_}
+use lib.Dec.{eqb}
+use lib.ListN.{length, getD, replicate}
+use Rattle.rules.specs.declared.Event.{Event}
+use Rattle.rules.specs.declared.Entry.{Entry}
+use Rattle.rules.specs.declared.Program.{Program}
+use Rattle.rules.specs.declared.Schedule.{Schedule}
+use Rattle.rules.specs.Lists.{overAt}
+use Rattle.rules.specs.Records.{noProgram, noEntry}
+use Rattle.rules.specs.Rows.{Row}
+use Rattle.rules.specs.Bytes.{rowBytes}
+use Rattle.rules.specs.Sound.{sound}
+use Rattle.rules.specs.Calls.{Call, addProgram, deliver, cancel, setClock, ask, list, call}
+use Rattle.rules.specs.Image.{image, loaded, formed, imaged}
+use Rattle.rules.specs.Script.{entryNumbers}
+use Rattle.rules.specs.Marks.{same}
+
+-- whether two tests come out the same
+abbrev agree : Bool → Bool → Bool
+agree a b = cond a b (not b)
+
+abbrev programNumbers : List Program → List ℕ
+programNumbers [] = []
+programNumbers (p ∷ ps) = cond (p .added) 1 0 ∷ p .primacy ∷ p .defaults ∷ programNumbers ps
+
+-- THE RULES
+
+-- a schedule by value, and whether it keeps every rule
+pub record RuleCase : Type 0 where
+  pub schedule : Schedule
+  pub kept : Bool
+
+unfoldable pub rulesHold : List RuleCase → Bool
+rulesHold [] = true
+rulesHold (c ∷ cs) = agree (sound (c .schedule)) (c .kept) && rulesHold cs
+
+-- id, program, controls, creation time, start, duration, randomisations, draws
+abbrev drawn : ℕ → ℕ → ℕ → ℕ → ℕ → ℕ → ℕ → ℕ → ℕ → ℕ → Event
+drawn i program controls created start duration rs rd sd dd =
+    record {
+      id = record { value = i };
+      program = program;
+      controls = controls;
+      created = created;
+      start = start;
+      duration = duration;
+      «randomize_start» = rs;
+      «randomize_duration» = rd;
+      «start_draw» = sd;
+      «duration_draw» = dd;
+    }
+
+-- -k on 16 bits
+abbrev minus : ℕ → ℕ
+minus k = 65536 - k
+
+abbrev entry : Event → ℕ → ℕ → Bool → Entry
+entry e begins held gone = record { event = e; begins = begins; held = held; cancelled = gone }
+
+abbrev program : Bool → ℕ → ℕ → Program
+program added primacy defaults = record { added = added; primacy = primacy; defaults = defaults }
+
+-- clock, count, programs, entries, as they are
+abbrev raw : ℕ → ℕ → List Program → List Entry → Schedule
+raw clock count ps hs = record { clock = clock; count = count; programs = ps; entries = hs }
+
+-- program 0 and a last place; entries with unused ones behind them
+abbrev schedule : ℕ → ℕ → Program → List Entry → Schedule
+schedule clock count last hs =
+    raw clock count (program true 0 1 ∷ (replicate 6 noProgram ++ (last ∷ []))) (hs ++ replicate (48 - length hs) noEntry)
+
+-- the last place of the programs, at clock 0
+abbrev placed : Program → Schedule
+placed p = schedule 0 0 p []
+
+-- the held events, all of them in use, at clock 5000
+abbrev holds : List Entry → Schedule
+holds hs = schedule 5000 (length hs) noProgram hs
+
+-- one entry behind those in use
+abbrev unused : Entry → Schedule
+unused h = schedule 5000 0 noProgram (h ∷ [])
+
+-- an event of program 0, id 1, on control 0
+abbrev timed : ℕ → ℕ → ℕ → ℕ → Event
+timed start duration rs sd = drawn 1 0 1 0 start duration rs 0 sd 0
+
+-- one on these controls, under this id, from 4900 to 5100
+abbrev plain : ℕ → ℕ → Event
+plain i controls = drawn i 0 controls 0 4900 200 0 0 0 0
+
+-- one that has begun and holds this mask
+abbrev begun : ℕ → ℕ → ℕ → Entry
+begun i controls held = entry (plain i controls) 4900 held false
+
+-- n entries with the ids from 1 on
+abbrev many : ℕ → List Entry
+many zero = []
+many (suc n) = many n ++ (begun (n + 1) 1 0 ∷ [])
+
+infix 70 _keeps_
+abbrev _keeps_ : Schedule → Bool → RuleCase
+s keeps b = record { schedule = s; kept = b }
+
+abbrev good : Schedule → RuleCase
+good s = s keeps true
+
+abbrev broken : Schedule → RuleCase
+broken s = s keeps false
+
+unfoldable pub ruleTable : List RuleCase
+ruleTable =
+    -- the arrays have their places
+    good (raw 0 0 (replicate 8 noProgram) (replicate 48 noEntry))
+    ∷ broken (raw 0 0 (replicate 7 noProgram) (replicate 48 noEntry))
+    ∷ broken (raw 0 0 (replicate 9 noProgram) (replicate 48 noEntry))
+    ∷ broken (raw 0 0 (replicate 8 noProgram) (replicate 47 noEntry))
+    ∷ broken (raw 0 0 (replicate 8 noProgram) (replicate 49 noEntry))
+    -- limits: the clock, the count
+    ∷ good (schedule 9000000000 0 noProgram [])
+    ∷ broken (schedule 9000000001 0 noProgram [])
+    ∷ good (holds (many 48))
+    ∷ broken (schedule 5000 49 noProgram (many 48))
+    -- programs pass 5; an unused place is zero
+    ∷ good (placed (program true 2 0))
+    ∷ broken (placed (program true 3 0))
+    ∷ broken (placed (program true 64 0))
+    ∷ good (placed (program true 65 1))
+    ∷ good (placed (program true 191 1))
+    ∷ broken (placed (program true 192 1))
+    ∷ good (placed (program true 0 0))
+    ∷ broken (placed (program false 1 0))
+    ∷ broken (placed (program false 0 1))
+    -- an unused event place is zero, in each of its fields
+    ∷ good (unused noEntry)
+    ∷ broken (unused (entry (drawn 1 0 0 0 0 0 0 0 0 0) 0 0 false))
+    ∷ broken (unused (entry (drawn 0 1 0 0 0 0 0 0 0 0) 0 0 false))
+    ∷ broken (unused (entry (drawn 0 0 1 0 0 0 0 0 0 0) 0 0 false))
+    ∷ broken (unused (entry (drawn 0 0 0 1 0 0 0 0 0 0) 0 0 false))
+    ∷ broken (unused (entry (drawn 0 0 0 0 1 0 0 0 0 0) 0 0 false))
+    ∷ broken (unused (entry (drawn 0 0 0 0 0 1 0 0 0 0) 0 0 false))
+    ∷ broken (unused (entry (drawn 0 0 0 0 0 0 1 0 0 0) 0 0 false))
+    ∷ broken (unused (entry (drawn 0 0 0 0 0 0 0 1 0 0) 0 0 false))
+    ∷ broken (unused (entry (drawn 0 0 0 0 0 0 0 0 1 0) 0 0 false))
+    ∷ broken (unused (entry (drawn 0 0 0 0 0 0 0 0 0 1) 0 0 false))
+    ∷ broken (unused (entry (drawn 0 0 0 0 0 0 0 0 0 0) 1 0 false))
+    ∷ broken (unused (entry (drawn 0 0 0 0 0 0 0 0 0 0) 0 1 false))
+    ∷ broken (unused (entry (drawn 0 0 0 0 0 0 0 0 0 0) 0 0 true))
+    ∷ broken (unused (begun 1 1 0))
+    ∷ broken (schedule 5000 1 noProgram (many 2))
+    ∷ broken (schedule 5000 2 noProgram (many 1))
+    -- ids ascend, those next to each other and all others
+    ∷ good (holds (begun 1 1 0 ∷ begun 2 1 0 ∷ begun 3 1 0 ∷ []))
+    ∷ broken (holds (begun 1 1 0 ∷ begun 1 1 0 ∷ []))
+    ∷ broken (holds (begun 2 1 0 ∷ begun 1 1 0 ∷ []))
+    ∷ broken (holds (begun 2 1 0 ∷ begun 3 1 0 ∷ begun 2 1 0 ∷ []))
+    -- events pass 3 and 6: the last program, one that was not added, one that is none
+    ∷ good (schedule 5000 1 (program true 1 0) (entry (drawn 1 7 1 0 4900 200 0 0 0 0) 4900 1 false ∷ []))
+    ∷ broken (schedule 5000 1 noProgram (entry (drawn 1 7 1 0 4900 200 0 0 0 0) 4900 1 false ∷ []))
+    ∷ broken (schedule 5000 1 (program true 1 0) (entry (drawn 1 8 1 0 4900 200 0 0 0 0) 4900 1 false ∷ []))
+    -- events pass 7
+    ∷ good (schedule 3600 1 noProgram (entry (timed 3600 1 0 0) 3600 1 false ∷ []))
+    ∷ broken (schedule 3599 1 noProgram (entry (timed 3599 2 0 0) 3599 1 false ∷ []))
+    ∷ broken (holds (entry (plain 1 0) 4900 0 false ∷ []))
+    ∷ broken (holds (entry (drawn 1 0 1 0 4900 200 0 3600 0 3601) 4900 1 false ∷ []))
+    -- the effective start: not before the drawn start, before the effective end; also one that no run leaves
+    ∷ good (schedule 0 1 noProgram (entry (timed 5000 200 100 50) 5050 0 false ∷ []))
+    ∷ broken (schedule 0 1 noProgram (entry (timed 5000 200 100 50) 5049 0 false ∷ []))
+    ∷ good (schedule 0 1 noProgram (entry (timed 5000 200 100 50) 5249 0 false ∷ []))
+    ∷ broken (schedule 0 1 noProgram (entry (timed 5000 200 100 50) 5250 0 false ∷ []))
+    ∷ good (schedule 0 1 noProgram (entry (timed 3600 1 (minus 3600) (minus 3600)) 0 1 false ∷ []))
+    -- the effective end is after the clock
+    ∷ good (schedule 5099 1 noProgram (begun 1 1 1 ∷ []))
+    ∷ broken (schedule 5100 1 noProgram (begun 1 1 1 ∷ []))
+    -- the held mask is within the controls
+    ∷ good (holds (begun 1 5 5 ∷ []))
+    ∷ good (holds (begun 1 5 4 ∷ []))
+    ∷ broken (holds (begun 1 5 2 ∷ []))
+    ∷ broken (holds (begun 1 5 7 ∷ []))
+    -- it is zero before the start
+    ∷ good (schedule 4900 1 noProgram (begun 1 1 1 ∷ []))
+    ∷ broken (schedule 4899 1 noProgram (begun 1 1 1 ∷ []))
+    ∷ good (schedule 4899 1 noProgram (begun 1 1 0 ∷ []))
+    -- and if the event is cancelled
+    ∷ good (holds (entry (plain 1 1) 4900 0 true ∷ []))
+    ∷ broken (holds (entry (plain 1 1) 4900 1 true ∷ []))
+    -- held masks share no bit; the better of two may hold nothing
+    ∷ good (holds (begun 1 7 5 ∷ begun 2 7 2 ∷ []))
+    ∷ broken (holds (begun 1 7 5 ∷ begun 2 7 3 ∷ []))
+    ∷ broken (holds (begun 1 7 1 ∷ begun 2 7 2 ∷ begun 3 7 1 ∷ []))
+    ∷ good (holds (begun 1 7 7 ∷ begun 2 7 0 ∷ []))
+    -- a rule is broken by any entry, not by the first alone
+    ∷ broken (holds (begun 1 1 0 ∷ begun 2 1 2 ∷ []))
+    ∷ []
+
+-- NUMBER 2
+
+-- a schedule by value, a call on it, and the call's number
+pub record NumberCase : Type 0 where
+  pub schedule : Schedule
+  pub call : Call
+  pub number : ℕ
+
+-- what a schedule says of its programs and of its first entry
+abbrev says : Schedule → List ℕ
+says s = s .clock ∷ s .count ∷ (programNumbers (s .programs) ++ entryNumbers (getD (s .entries) 0 noEntry))
+
+-- whether the number is given, with nothing changed if it refuses
+unfoldable pub numbersHold : List NumberCase → Bool
+numbersHold [] = true
+numbersHold (c ∷ cs) =
+    let o = call (c .schedule) (c .call) in
+    eqb (o .number) (c .number) && (eqb (c .number) 0 || same (says (o .state)) (says (c .schedule))) && numbersHold cs
+
+infix 70 _on_gets_
+abbrev _on_gets_ : Call → Schedule → ℕ → NumberCase
+c on s gets n = record { schedule = s; call = c; number = n }
+
+-- the last reading of the clock, and a second more
+abbrev lastSecond : Schedule
+lastSecond = schedule 9000000000 0 noProgram []
+
+abbrev beyond : Schedule
+beyond = schedule 9000000001 0 noProgram []
+
+unfoldable pub numberTable : List NumberCase
+numberTable =
+    -- 2 stands before every other number of each call
+    ask 0 on lastSecond gets 0
+    ∷ ask 0 on beyond gets 2
+    ∷ ask 32 on lastSecond gets 14
+    ∷ ask 32 on beyond gets 2
+    ∷ addProgram 1 1 1 on lastSecond gets 0
+    ∷ addProgram 8 1 1 on lastSecond gets 3
+    ∷ addProgram 8 1 1 on beyond gets 2
+    ∷ deliver (plain 1 1) on lastSecond gets 9
+    ∷ deliver (plain 1 1) on beyond gets 2
+    ∷ cancel 1 on lastSecond gets 11
+    ∷ cancel 1 on beyond gets 2
+    ∷ setClock 9000000000 [] on lastSecond gets 0
+    ∷ setClock 9000000001 [] on lastSecond gets 12
+    ∷ setClock 9000000001 [] on beyond gets 2
+    ∷ list [] on lastSecond gets 0
+    ∷ list [] on beyond gets 2
+    -- a refused call has changed nothing
+    ∷ addProgram 0 1 9 on lastSecond gets 4
+    ∷ deliver (drawn 1 0 7 0 4900 200 0 0 0 0) on (holds (begun 1 1 1 ∷ [])) gets 8
+    ∷ []
+
+-- THE BYTES
+
+-- fields that all differ: first and second program, first, second and last event; a schedule that breaks rules, since bytes are not judged
+abbrev layout : Schedule
+layout =
+    raw 0x0102030405060708 0x09
+    (program true 0x0A 0x0B0C0D0E ∷ program false 0x0F 0x10111213 ∷ (replicate 5 noProgram ++ (program true 0x14 0x15161718 ∷ [])))
+    (entry (drawn 0x2122232425262728 0x29 0x2A2B2C2D 0x2E2F3031 0x32333435 0x36373839 0x3A3B 0x3C3D 0x3E3F 0x4041) 0x4243444546474849 0x4A4B4C4D true
+    ∷ entry (drawn 0x5152535455565758 0x59 0x5A5B5C5D 0x5E5F6061 0x62636465 0x66676869 0x6A6B 0x6C6D 0x6E6F 0x7071) 0x7273747576777879 0x7A7B7C7D false
+    ∷ (replicate 45 noEntry
+    ++ (entry (drawn 0x8182838485868788 0x89 0x8A8B8C8D 0x8E8F9091 0x92939495 0x96979899 0x9A9B 0x9C9D 0x9E9F 0xA0A1) 0xA2A3A4A5A6A7A8A9 0xAAABACAD true ∷ [])))
+
+-- n numbers one after the other, from x on
+abbrev from : ℕ → ℕ → List ℕ
+from x zero = []
+from x (suc n) = x ∷ from (x + 1) n
+
+-- the image of that: clock and count; two program entries, five unused, the last; two event entries, 45 unused, the last
+abbrev layoutBytes : List ℕ
+layoutBytes =
+    from 0x01 9
+    ++ (1 ∷ from 0x0A 5 ++ (0 ∷ from 0x0F 5 ++ (replicate 30 0 ++ (1 ∷ from 0x14 5
+    ++ (from 0x21 45 ++ (1 ∷ from 0x51 45 ++ (0 ∷ replicate 2070 0 ++ (from 0x81 45 ++ (1 ∷ [])))))))))
+
+-- what a schedule says where `layout` says something: clock, count, lengths, programs, the first two entries and the last
+abbrev numbers : Schedule → List ℕ
+numbers s =
+    s .clock ∷ s .count ∷ length (s .programs) ∷ length (s .entries)
+    ∷ (programNumbers (s .programs)
+    ++ (entryNumbers (getD (s .entries) 0 noEntry) ++ (entryNumbers (getD (s .entries) 1 noEntry) ++ entryNumbers (getD (s .entries) 47 noEntry))))
+
+-- a row whose bytes all differ
+abbrev rowLayout : Row
+rowLayout = record { time = 0x0102030405060708; id = 0x090A0B0C0D0E0F10; code = 0x11 }
+
+unfoldable pub bytesHold : Bool
+bytesHold =
+    same (image layout) layoutBytes
+    && same (numbers (loaded layoutBytes)) (numbers layout)
+    && same (rowBytes rowLayout) (from 1 17)
+
+-- LENGTHS AND MARKS
+
+-- bytes, and whether length and marks are an image's
+pub record FormCase : Type 0 where
+  pub bytes : List ℕ
+  pub formed : Bool
+
+unfoldable pub formsHold : List FormCase → Bool
+formsHold [] = true
+formsHold (c ∷ cs) = agree (formed (c .bytes)) (c .formed) && formsHold cs
+
+-- an image of zeros with one other byte
+abbrev mark : ℕ → ℕ → List ℕ
+mark at b = overAt at (b ∷ []) (replicate 2265 0)
+
+abbrev forms : Bool → List ℕ → FormCase
+forms b l = record { bytes = l; formed = b }
+
+unfoldable pub formTable : List FormCase
+formTable =
+    -- lengths
+    forms false []
+    ∷ forms false (replicate 2264 0)
+    ∷ forms true (replicate 2265 0)
+    ∷ forms false (replicate 2266 0)
+    -- the mark of the first and the last program; of the first, the second and the last event
+    ∷ forms true (mark 9 1)
+    ∷ forms false (mark 9 2)
+    ∷ forms true (mark 51 1)
+    ∷ forms false (mark 51 2)
+    ∷ forms true (mark 102 1)
+    ∷ forms false (mark 102 2)
+    ∷ forms false (mark 148 2)
+    ∷ forms true (mark 2264 1)
+    ∷ forms false (mark 2264 2)
+    -- the bytes next to them are no marks
+    ∷ forms true (mark 8 2)
+    ∷ forms true (mark 10 2)
+    ∷ forms true (mark 50 2)
+    ∷ forms true (mark 52 2)
+    ∷ forms true (mark 101 2)
+    ∷ forms true (mark 103 2)
+    ∷ forms true (mark 2263 2)
+    ∷ []
+
+-- an image keeps both: its length and marks, and the rules. The first has the wrong length, the others a count of 49 and a clock beyond the last reading.
+unfoldable pub refusedImages : Bool
+refusedImages =
+    not (imaged (replicate 2264 0))
+    && not (imaged (mark 8 49))
+    && not (imaged (mark 0 1))
+
+pub record ImageTables : Type 0 where
+  -- each rule is kept by one and broken by one
+  pub rules : rulesHold ruleTable ≡ true
+  -- each byte stands where it belongs, and is read from there
+  pub bytes : bytesHold ≡ true
+  -- lengths and marks
+  pub forms : formsHold formTable ≡ true
+  pub refused : refusedImages ≡ true
+  -- number 2, before every other
+  pub numbers : numbersHold numberTable ≡ true

@@ -1,0 +1,129 @@
+-- Lines: each kind of frame with its fields, and what is no frame. One line of the table each.
+use Prim.Native.Nat.{ℕ}
+use Prim.Native.String.{String}
+use mathlib.Core.Bool.{Bool, true, _&&_}
+use mathlib.Core.List.{List, [], _∷_}
+use Rattle.rules.specs.declared.Event.{Event}
+use Rattle.rules.specs.declared.Frame.{Frame}
+use Rattle.rules.specs.declared.Frame.the-variants as frame
+use Rattle.rules.specs.declared.Line.{Line}
+use Rattle.rules.specs.declared.Line.the-variants.{Good, Bad}
+use Rattle.rules.specs.Ascii.{ascii}
+use Rattle.rules.specs.Records.{idOf}
+use Rattle.rules.specs.Frames.{lineOf}
+use Rattle.rules.specs.Marks.{same}
+
+-- the fields of an event, in document 01's order
+abbrev pub eventNumbers : Event → List ℕ
+eventNumbers e =
+    idOf e ∷ e .program ∷ e .controls ∷ e .created ∷ e .start ∷ e .duration
+    ∷ e .«randomize_start» ∷ e .«randomize_duration» ∷ e .«start_draw» ∷ e .«duration_draw» ∷ []
+
+-- a frame's kind and fields
+abbrev pub frameNumbers : Frame → List ℕ
+frameNumbers (frame.Event e) = 1 ∷ eventNumbers e
+frameNumbers (frame.Cancel i) = 2 ∷ i .value ∷ []
+frameNumbers (frame.Clock t) = 3 ∷ t ∷ []
+frameNumbers (frame.Program n p d) = 4 ∷ n ∷ p ∷ d ∷ []
+frameNumbers (frame.Ask c) = 5 ∷ c ∷ []
+
+-- the same of a line; nothing if it is no frame
+abbrev pub lineNumbers : Line → List ℕ
+lineNumbers (Good f) = frameNumbers f
+lineNumbers Bad = []
+
+-- a line, and the kind and fields that it stands for
+pub record LineCase : Type 0 where
+  pub line : String
+  pub frame : List ℕ
+
+-- whether each line stands for what the table has beside it
+unfoldable pub linesHold : List LineCase → Bool
+linesHold [] = true
+linesHold (c ∷ cs) = same (lineNumbers (lineOf (ascii (c .line)))) (c .frame) && linesHold cs
+
+infix 70 _reads_
+abbrev _reads_ : String → List ℕ → LineCase
+l reads ns = record { line = l; frame = ns }
+
+-- a line that is no frame
+abbrev bad : String → LineCase
+bad l = l reads []
+
+abbrev asks : ℕ → List ℕ
+asks c = 5 ∷ c ∷ []
+
+unfoldable pub lineTable : List LineCase
+lineTable =
+    -- every kind, all its bytes different
+    "010102030405060708090A0B0C0D0E0F101112131415161718191A1B1C1D1E1F2021" reads (
+    1 ∷ 0x0102030405060708 ∷ 0x09 ∷ 0x0A0B0C0D ∷ 0x0E0F1011 ∷ 0x12131415 ∷ 0x16171819 ∷ 0x1A1B ∷ 0x1C1D ∷ 0x1E1F ∷ 0x2021 ∷ []
+    )
+    ∷ "02F1F2F3F4F5F6F7F8" reads (2 ∷ 0xF1F2F3F4F5F6F7F8 ∷ [])
+    ∷ "03E1E2E3E4E5E6E7E8" reads (3 ∷ 0xE1E2E3E4E5E6E7E8 ∷ [])
+    ∷ "04D1D2D3D4D5D6" reads (4 ∷ 0xD1 ∷ 0xD2 ∷ 0xD3D4D5D6 ∷ [])
+    ∷ "05C1" reads asks 0xC1
+    -- every kind one digit short, one digit long, one byte short, one byte long
+    ∷ bad "010102030405060708090A0B0C0D0E0F101112131415161718191A1B1C1D1E1F202"
+    ∷ bad "010102030405060708090A0B0C0D0E0F101112131415161718191A1B1C1D1E1F20210"
+    ∷ bad "010102030405060708090A0B0C0D0E0F101112131415161718191A1B1C1D1E1F20"
+    ∷ bad "010102030405060708090A0B0C0D0E0F101112131415161718191A1B1C1D1E1F202122"
+    ∷ bad "02F1F2F3F4F5F6F7F"
+    ∷ bad "02F1F2F3F4F5F6F7F80"
+    ∷ bad "02F1F2F3F4F5F6F7"
+    ∷ bad "02F1F2F3F4F5F6F7F8F9"
+    ∷ bad "03E1E2E3E4E5E6E7E"
+    ∷ bad "03E1E2E3E4E5E6E7E80"
+    ∷ bad "03E1E2E3E4E5E6E7"
+    ∷ bad "03E1E2E3E4E5E6E7E8E9"
+    ∷ bad "04D1D2D3D4D5D"
+    ∷ bad "04D1D2D3D4D5D60"
+    ∷ bad "04D1D2D3D4D5"
+    ∷ bad "04D1D2D3D4D5D6D7"
+    ∷ bad "05C"
+    ∷ bad "05C10"
+    ∷ bad "05"
+    ∷ bad "05C1C2"
+    -- kinds that are none, each at a length that is another's; a known kind at another's length; an empty line, one digit
+    ∷ bad "000102030405060708090A0B0C0D0E0F101112131415161718191A1B1C1D1E1F2021"
+    ∷ bad "060102030405060708090A0B0C0D0E0F101112131415161718191A1B1C1D1E1F2021"
+    ∷ bad "00F1F2F3F4F5F6F7F8"
+    ∷ bad "01F1F2F3F4F5F6F7F8"
+    ∷ bad "04F1F2F3F4F5F6F7F8"
+    ∷ bad "06F1F2F3F4F5F6F7F8"
+    ∷ bad "03D1D2D3D4D5D6"
+    ∷ bad "05D1D2D3D4D5D6"
+    ∷ bad "04C1"
+    ∷ bad "06C1"
+    ∷ bad ""
+    ∷ bad "0"
+    -- the ends of the digits' ranges and the bytes next to them, as the first digit of a pair and as the second
+    ∷ bad "05/0"
+    ∷ "0500" reads asks 0x00
+    ∷ "0590" reads asks 0x90
+    ∷ bad "05:0"
+    ∷ bad "05@0"
+    ∷ "05A0" reads asks 0xA0
+    ∷ "05F0" reads asks 0xF0
+    ∷ bad "05G0"
+    ∷ bad "05`0"
+    ∷ bad "05a0"
+    ∷ bad "05f0"
+    ∷ bad "050/"
+    ∷ "0501" reads asks 0x01
+    ∷ "0509" reads asks 0x09
+    ∷ bad "050:"
+    ∷ bad "050@"
+    ∷ "050A" reads asks 0x0A
+    ∷ "050F" reads asks 0x0F
+    ∷ bad "050G"
+    ∷ bad "050`"
+    ∷ bad "050a"
+    ∷ bad "050f"
+    -- spaces, a carriage return, a line feed in the line
+    ∷ bad " 0500"
+    ∷ bad "0500 "
+    ∷ bad "05 0"
+    ∷ bad "0500\r"
+    ∷ bad "05\n0"
+    ∷ []

@@ -1,0 +1,63 @@
+-- Calls made one after the other from the fresh schedule, each beside all that it gives: number, answer, lent buffer, lent list.
+use Prim.Native.Nat.{ℕ}
+use mathlib.Core.Bool.{Bool, true, false, cond, _&&_}
+use mathlib.Core.List.{List, [], _∷_, _++_, map}
+use lib.Dec.{eqb}
+use Rattle.rules.specs.declared.Entry.{Entry}
+use Rattle.rules.specs.declared.Record.{Record}
+use Rattle.rules.specs.Calls.{Call, Value, nothing, code, count, holder, default, nobody, lentBytes, lentList}
+use Rattle.rules.specs.LineTable.{eventNumbers}
+use Rattle.rules.specs.Marks.{Reply, same}
+
+-- an answer as numbers
+abbrev pub valueNumbers : Value → List ℕ
+valueNumbers nothing = 0 ∷ []
+valueNumbers (code n) = 1 ∷ n ∷ []
+valueNumbers (count n) = 2 ∷ n ∷ []
+valueNumbers (holder i) = 3 ∷ i ∷ []
+valueNumbers (default p) = 4 ∷ p ∷ []
+valueNumbers nobody = 5 ∷ []
+
+-- a held event as numbers: its fields, effective start, held mask, cancelled mark
+abbrev pub entryNumbers : Entry → List ℕ
+entryNumbers h = eventNumbers (h .event) ++ (h .begins ∷ h .held ∷ cond (h .cancelled) 1 0 ∷ [])
+
+abbrev pub entriesNumbers : List Entry → List ℕ
+entriesNumbers [] = []
+entriesNumbers (h ∷ hs) = entryNumbers h ++ entriesNumbers hs
+
+-- a call, and what it gives
+pub record Step : Type 0 where
+  pub call : Call
+  pub number : ℕ
+  pub value : Value
+  pub bytes : List ℕ
+  pub records : List Record
+
+abbrev pub stepHolds : Step → Reply → Bool
+stepHolds s r =
+    eqb (r .number) (s .number)
+    && same (valueNumbers (r .value)) (valueNumbers (s .value))
+    && same (r .bytes) (s .bytes)
+    && same (entriesNumbers (map (λ x. x .entry) (r .records))) (entriesNumbers (map (λ x. x .entry) (s .records)))
+
+abbrev pub stepsHold : List Step → List Reply → Bool
+stepsHold [] [] = true
+stepsHold [] (r ∷ rs) = false
+stepsHold (s ∷ ss) [] = false
+stepsHold (s ∷ ss) (r ∷ rs) = stepHolds s r && stepsHold ss rs
+
+-- whether each script of a table holds, of what `see` shows of a list of calls
+unfoldable pub scriptsHold : (List Call → List Reply) → List (List Step) → Bool
+scriptsHold see [] = true
+scriptsHold see (s ∷ ss) = stepsHold s (see (map (λ x. x .call) s)) && scriptsHold see ss
+
+infix 70 _answers_
+-- an accepted call that is lent nothing
+abbrev pub _answers_ : Call → Value → Step
+c answers v = record { call = c; number = 0; value = v; bytes = []; records = [] }
+
+infix 70 _refused_
+-- a refused call: the buffer and the list as they came in
+abbrev pub _refused_ : Call → ℕ → Step
+c refused n = record { call = c; number = n; value = nothing; bytes = lentBytes c; records = lentList c }

@@ -1,0 +1,93 @@
+-- What is printed: a conversation with the program, each line beside all that it writes for it.
+use Prim.Native.Nat.{ℕ}
+use Prim.Native.String.{String}
+use mathlib.Core.List.{List, [], _∷_, _++_}
+use Rattle.rules.specs.Ascii.{lines}
+
+-- a line, and the lines that are printed for it
+pub record Said : Type 0 where
+  pub line : String
+  pub text : List String
+
+abbrev spoken : List Said → List String
+spoken [] = []
+spoken (s ∷ ss) = s .line ∷ spoken ss
+
+abbrev printed : List Said → List String
+printed [] = []
+printed (s ∷ ss) = s .text ++ printed ss
+
+infix 70 _prints_
+abbrev _prints_ : String → List String → Said
+l prints ts = record { line = l; text = ts }
+
+abbrev quiet : String → Said
+quiet l = l prints []
+
+infix 70 _says_
+abbrev _says_ : String → String → Said
+l says t = l prints (t ∷ [])
+
+abbrev conversation : List Said
+conversation =
+    -- programs 0 (defaults for controls 0, 10 and 31) and 7 (for control 1); numbers 3, 4, 5
+    quiet "04000180000401"
+    ∷ quiet "04074100000002"
+    ∷ "04074100000002" says "refused 4"
+    ∷ "04080200000000" says "refused 3"
+    ∷ "04010300000000" says "refused 5"
+    -- questions: a default by its program, none, number 14
+    ∷ "0500" says "0 default 0"
+    ∷ "0501" says "1 default 7"
+    ∷ "0502" says "2 none"
+    ∷ "050A" says "10 default 0"
+    ∷ "051F" says "31 default 0"
+    ∷ "0520" says "refused 14"
+    ∷ "05FF" says "refused 14"
+    -- number 1: an empty line, a short one, lower case
+    ∷ "" says "refused 1"
+    ∷ "05" says "refused 1"
+    ∷ "050a" says "refused 1"
+    ∷ quiet "030000000000000FA0"
+    -- events: ids of one digit, of two, of twenty; the same again prints nothing
+    ∷ "0100000000000000000000000008000000640000138800000064000000000000FFFF" says "refused 7"
+    ∷ "01000000000000000000000000080000006400001388000000640000000000000000" says "4000 0 1"
+    ∷ "01000000000000000900000000010000006400001388000002580000000000000000" says "4000 9 1"
+    ∷ "01000000000000000A00000000020000006400001388000002580000000000000000" says "4000 10 1"
+    ∷ "01FFFFFFFFFFFFFFFF00000000040000006400001388000000640000000000000000" says "4000 18446744073709551615 1"
+    ∷ "018AC7230489E8000000000000010000000000001388000002580000000000000000" says "4000 10000000000000000000 1"
+    ∷ quiet "01000000000000000900000000010000006400001388000002580000000000000000"
+    -- numbers 6, 7, 8, 9
+    ∷ "01000000000000000B03000000010000006400001388000002580000000000000000" says "refused 6"
+    ∷ "01000000000000000B00000000010000006400000E0F000002580000000000000000" says "refused 7"
+    ∷ "01000000000000000900000000010000006400001388000002590000000000000000" says "refused 8"
+    ∷ "01000000000000000B00000000010000006400000E10000001900000000000000000" says "refused 9"
+    -- cancelled, and cancelled again; numbers 11, 12
+    ∷ "02000000000000000A" says "4000 10 6"
+    ∷ quiet "02000000000000000A"
+    ∷ "02000000000000004D" says "refused 11"
+    ∷ "030000000000000F9F" says "refused 12"
+    -- rows of one moment; an event that holds a control, the default of one whose event was cancelled
+    ∷ "030000000000001388" prints ("5000 10000000000000000000 7" ∷ "5000 0 2" ∷ "5000 9 2" ∷ "5000 18446744073709551615 2" ∷ [])
+    ∷ "0500" says "0 event 9"
+    ∷ "0501" says "1 default 7"
+    ∷ "0502" says "2 event 18446744073709551615"
+    ∷ "0503" says "3 event 0"
+    ∷ "02FFFFFFFFFFFFFFFF" says "5000 18446744073709551615 6"
+    ∷ "0502" says "2 none"
+    ∷ "030000000000001770" prints ("5100 0 3" ∷ "5600 9 3" ∷ [])
+    ∷ quiet "030000000000001770"
+    -- times of ten digits; the last reading and the next
+    ∷ "010000000000000063000000000100000064FFFFFFFF000000010000000000000000" says "6000 99 1"
+    ∷ "010000000000000064070000000200000064FFFFFFFF000000020000000000000000" says "6000 100 1"
+    ∷ "030000000218711A01" says "refused 12"
+    ∷ "030000000218711A00" prints ("4294967295 99 2" ∷ "4294967295 100 2" ∷ "4294967296 99 3" ∷ "4294967297 100 3" ∷ [])
+    ∷ "01000000000000000900000000010000006400001388000002580000000000000000" says "refused 9"
+    ∷ []
+
+-- what the program reads, and what it writes for it
+unfoldable pub textInput : List ℕ
+textInput = lines (spoken conversation)
+
+unfoldable pub textOutput : List ℕ
+textOutput = lines (printed conversation)
