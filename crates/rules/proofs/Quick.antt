@@ -15,7 +15,7 @@ use Rattle.rules.specs.Moments.{Moved}
 use Rattle.rules.specs.Refusals.{Check, firstOf, clockChecks}
 use Rattle.rules.specs.Calls.{Call, addProgram, deliver, cancel, setClock, ask, list, nothing, Done, Outcome, clocked, does, checks, refusal, accepted, refused, lentBytes, lentList, call}
 use Rattle.rules.specs.Frames.{lineOf, frameCall}
-use Rattle.rules.specs.Printed.{frameText, refusedText, room, Told, tellFrame, tellLine, tell, tellAll}
+use Rattle.rules.specs.Printed.{outcomeText, badText, room, Told, tellFrame, tellLine, tell, tellAll}
 use Rattle.rules.specs.Marks.{Reply, replyOf, replies}
 use Rattle.rules.proofs.Tests.{either-false}
 use Rattle.rules.proofs.SoundState.{Sound}
@@ -125,11 +125,11 @@ pub record QuickTold : Type 0 where
 unfoldable pub quickTellFrame : State → Frame → QuickTold
 quickTellFrame s f =
     let a = quickCall s (frameCall f room) in
-    record { state = a .done .state; text = cond (eqb (a .number) 0) (frameText (s .clock) f (padded a)) (refusedText (a .number)) }
+    record { state = a .done .state; text = outcomeText (s .clock) f (padded a) }
 
 abbrev quickTellLine : State → Line → QuickTold
 quickTellLine s (Good f) = quickTellFrame s f
-quickTellLine s Bad = record { state = s; text = refusedText 1 }
+quickTellLine s Bad = record { state = s; text = badText }
 
 unfoldable pub quickTellAll : State → List (List ℕ) → List ℕ
 quickTellAll s [] = []
@@ -141,7 +141,7 @@ told q = record { state = pad (q .state); text = q .text }
 tell-frame : (s : State) → Sound s → (f : Frame) → tellFrame (pad s) f ≡ told (quickTellFrame s f)
 unfolding tellFrame quickTellFrame
 tell-frame s v f =
-    ap (λ o. record { state = o .state; text = cond (eqb (o .number) 0) (frameText (s .clock) f o) (refusedText (o .number)) }) (call-quick s v (frameCall f room))
+    ap (λ o. record { state = o .state; text = outcomeText (s .clock) f o }) (call-quick s v (frameCall f room))
 
 module _ (s : State) (v : Sound s) where
   tell-line : (l : Line) → tellLine (pad s) l ≡ told (quickTellLine s l)

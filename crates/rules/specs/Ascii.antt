@@ -1,4 +1,4 @@
--- A quoted text as its bytes, so that lines and what is printed for them can be read in the tables.
+-- Quoted texts as bytes, so that the tables show lines and what is printed for them as a person reads them.
 use Prim.Native.Nat.{ℕ}
 use Prim.Native.Char.{code}
 use Prim.Native.String.{String, [], _∷_}
@@ -9,9 +9,6 @@ ascii [] = list.[]
 ascii (c ∷ s) = list._∷_ (code c) (ascii s)
 
 -- lines, each with its line feed
-abbrev pub feed : list.List ℕ → list.List ℕ
-feed rest = list._∷_ 10 rest
-
 abbrev pub lines : list.List String → list.List ℕ
 lines list.[] = list.[]
-lines (list._∷_ s rest) = list._++_ (ascii s) (feed (lines rest))
+lines (list._∷_ s rest) = list._++_ (ascii s) (list._∷_ 10 (lines rest))

@@ -87,14 +87,22 @@ pub record Told : Type 0 where
   pub state : Schedule
   pub text : List ℕ
 
+-- a frame, accepted or refused
+abbrev pub outcomeText : ℕ → Frame → Outcome → List ℕ
+outcomeText clock f o = cond (eqb (o .number) 0) (frameText clock f o) (refusedText (o .number))
+
 unfoldable pub tellFrame : Schedule → Frame → Told
 tellFrame s f =
     let o = call s (frameCall f room) in
-    record { state = o .state; text = cond (eqb (o .number) 0) (frameText (s .clock) f o) (refusedText (o .number)) }
+    record { state = o .state; text = outcomeText (s .clock) f o }
+
+-- a line that is no frame
+abbrev pub badText : List ℕ
+badText = refusedText 1
 
 abbrev pub tellLine : Schedule → Line → Told
 tellLine s (Good f) = tellFrame s f
-tellLine s Bad = record { state = s; text = refusedText 1 }
+tellLine s Bad = record { state = s; text = badText }
 
 -- one line
 unfoldable pub tell : Schedule → List ℕ → Told

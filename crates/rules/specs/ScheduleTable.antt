@@ -101,6 +101,7 @@ scheduleTable =
     ∷ case pair 2 (2 ∷ 1 ∷ 2 ∷ []) (entry wide 2 3 false ∷ entry narrow 3 0 false ∷ [])
     ∷ case pair 3 (2 ∷ 1 ∷ 2 ∷ 3 ∷ 2 ∷ 2 ∷ []) (entry wide 2 2 false ∷ entry narrow 3 1 false ∷ [])
     ∷ case pair 4 (2 ∷ 1 ∷ 2 ∷ 3 ∷ 2 ∷ 2 ∷ 4 ∷ 2 ∷ 3 ∷ []) (entry wide 2 2 false ∷ [])
+    ∷ case pair 5 (2 ∷ 1 ∷ 2 ∷ 3 ∷ 2 ∷ 2 ∷ 4 ∷ 2 ∷ 3 ∷ []) (entry wide 2 2 false ∷ [])
     ∷ case pair 6 (2 ∷ 1 ∷ 2 ∷ 3 ∷ 2 ∷ 2 ∷ 4 ∷ 2 ∷ 3 ∷ 6 ∷ 1 ∷ 3 ∷ []) []
     -- cancelled at 3: it holds at 3, so that `next` gets nothing; after the call it holds nothing, gives no 3, and `worst` starts at 4
     ∷ case (at 0 next ∷ at 0 worst ∷ until 3 best ∷ []) 3 (2 ∷ 3 ∷ 2 ∷ 3 ∷ 1 ∷ 7 ∷ []) (entry next 3 0 false ∷ entry worst 4 0 false ∷ entry best 2 0 true ∷ [])
