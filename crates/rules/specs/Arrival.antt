@@ -13,7 +13,8 @@ use Rattle.rules.specs.Lists.{over, In, Same, Pairwise}
 use Rattle.rules.specs.Records.{idOf, has, fresh, pad}
 use Rattle.rules.specs.Period.{drawnStart}
 use Rattle.rules.specs.Bytes.{bytes}
-use Rattle.rules.specs.Calls.{Call, list, ask, Value, count, holder, Outcome, recordOf, defaultFor, bestDefault, counted, call, run, joined}
+use Rattle.rules.specs.Refusals.{firstOf}
+use Rattle.rules.specs.Calls.{Call, list, ask, Value, count, holder, Outcome, recordOf, defaultFor, bestDefault, checks, counted, call, run, joined}
 use Rattle.rules.specs.History.{Added, Brought, History, historyOf}
 use Rattle.rules.specs.Schedules.{Timed, programsOf, timesOf, seen, stateOf, rowsOf}
 
@@ -127,6 +128,8 @@ pub record AsScheduled (cs : List Call) : Type 0 where
   pub listed : (lent : List Record) → length (heldOf (historyOf cs)) ≤ length lent → Listed (historyOf cs) lent (call (after cs) (list lent))
   -- every question is answered by the holder or the default
   pub asked : (c : ℕ) → c < 32 → Asked (historyOf cs) c (call (after cs) (ask c))
+  -- the number of each call is the one that the rules give for the schedule of what was accepted before it
+  pub refusals : (before rest : List Call) (c : Call) → cs ≡ before ++ (c ∷ rest) → call (after before) c .number ≡ firstOf (checks (stateOf (historyOf before)) c)
   -- no call of it is refused with 2
   pub never-broken : (before rest : List Call) (c : Call) → cs ≡ before ++ (c ∷ rest) → call (after before) c .number ≡ 2 → ⊥
   -- after no call of it does a control have two holders
