@@ -2,13 +2,13 @@
 use mathlib.Core.Path.{_≡_, refl, ap, ap₂, _∙_}
 use mathlib.Core.Logic.{inl, inr}
 use Prim.Native.Nat.{ℕ, _<_, _≤_}
-use mathlib.Core.Bool.{Bool, true, false, cond, _||_, or-true}
+use mathlib.Core.Bool.{Bool, true, false, cond, or-true}
 use mathlib.Core.List.{List, [], _∷_, _++_, map}
-use lib.Dec.{ltb, leb}
+use lib.Dec.{ltb}
 use borrow.Author.Tests.{lt-ltb, le-leb}
 use Rattle.rules.specs.declared.Entry.{Entry}
 use Rattle.rules.specs.declared.Program.{Program}
-use Rattle.rules.specs.Lists.{keep, insert, In, All}
+use Rattle.rules.specs.Lists.{keep, insert, All}
 use Rattle.rules.specs.Records.{idOf, join}
 use Rattle.rules.specs.Holding.{rankOf, better, claim, taken, heldAt, Holding, endOf}
 use Rattle.rules.specs.Rows.{codeAt, rowOf, rowsWith, rowsFrom, ending, superseded, starting}

@@ -24,6 +24,7 @@ pub mod Jump
 pub mod Interval
 pub mod Bound
 pub mod Nobody
+pub mod Refused
 pub mod CallLaws
 pub mod FaceLaws
 pub mod RowBytes

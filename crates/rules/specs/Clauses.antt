@@ -12,15 +12,17 @@ use Rattle.rules.specs.declared.Event.{Event}
 use Rattle.rules.specs.declared.Answer.{Answer}
 use Rattle.rules.specs.declared.Entry.{Entry}
 use Rattle.rules.specs.declared.Program.{Program}
+use Rattle.rules.specs.declared.Record.{Record}
 use Rattle.rules.specs.declared.Schedule.{Schedule}
-use Rattle.rules.specs.Lists.{In}
-use Rattle.rules.specs.Records.{State, idOf, has, fresh, view, pad}
+use Rattle.rules.specs.Lists.{In, All}
+use Rattle.rules.specs.Records.{State, idOf, has, lastClock, programAt, fresh, view, pad}
 use Rattle.rules.specs.Period.{effectiveEnd}
 use Rattle.rules.specs.Holding.{Rank, rankOf, better, heldAt, Holding, endOf}
 use Rattle.rules.specs.Rows.{Row, codeAt, rowsWith, rowsAt, ending, superseded, starting}
 use Rattle.rules.specs.Moments.{Moved, second, passed}
-use Rattle.rules.specs.Sound.{sound}
-use Rattle.rules.specs.Calls.{Call, deliver, setClock, code, count, numberOf, valueOf, lentBytes, lentList, call}
+use Rattle.rules.specs.Sound.{malformed, sound}
+use Rattle.rules.specs.Refusals.{late}
+use Rattle.rules.specs.Calls.{Call, deliver, setClock, list, code, count, numberOf, valueOf, lentBytes, lentList, call}
 use Rattle.rules.specs.Image.{imageSize, image, loaded, imaged}
 use Rattle.rules.specs.Face.{Operation, asCall, idTooLong, shown, negative, lentAfter, FaceOutcome, face, faceFresh}
 use Rattle.rules.specs.Schedules.{Timed, goneBy, holding, seen}
@@ -102,6 +104,19 @@ pub record MomentClauses : Type 0 where
   pub quiet : (s : Schedule) → sound s ≡ true → busy (suc (s .clock)) (view s .entries) ≡ false
       → second (view s) ≡ record { state = record { clock = suc (s .clock); programs = s .programs; entries = view s .entries }; rows = [] }
 
+-- Numbers given: none before 10 applies to the delivery
+pub record Fit (s : State) (e : Event) : Type 0 where
+  -- not 3: its program number is not above 7
+  pub program : e .program ≤ 7
+  -- not 6: its program was added
+  pub added : programAt (s .programs) (e .program) .added ≡ true
+  -- not 7: no field is out of range
+  pub well-formed : malformed e ≡ false
+  -- not 8: its id is not held
+  pub new : All (λ h. idOf (h .event) ≡ idOf e → ⊥) (s .entries)
+  -- not 9: its end is not too near
+  pub in-time : late (s .clock) e ≡ false
+
 -- Calls and Numbers given
 pub record CallClauses : Type 0 where
   -- a refused call leaves the schedule, the buffer and the list as they came in
@@ -115,10 +130,13 @@ pub record CallClauses : Type 0 where
   -- an event with another field under a held id, a fresh draw too, is never accepted
   pub redrawn : (s : Schedule) (h : Entry) (e : Event) → sound s ≡ true → In h (view s .entries) → idOf (h .event) ≡ idOf e → (h .event ≡ e → ⊥)
       → call s (deliver e) .number ≡ 0 → ⊥
-  -- 10 is given at 48 held events and not before
-  pub full : (s : Schedule) (e : Event) → sound s ≡ true → call s (deliver e) .number ≡ 10 → length (view s .entries) ≡ 48
+  -- 10 is given at 48 held events and not before, to an event to which no number before 10 applies
+  pub full : (s : Schedule) (e : Event) → sound s ≡ true → call s (deliver e) .number ≡ 10 ↔ ((length (view s .entries) ≡ 48) × Fit (view s) e)
   -- 13 is given for a buffer that is shorter than the rows, and not for one that they fit
-  pub too-short : (s : Schedule) (t : ℕ) (b : List ℕ) → sound s ≡ true → call s (setClock t b) .number ≡ 13 → length b < 17 * length (passed (view s) t .rows)
+  pub too-short : (s : Schedule) (t : ℕ) (b : List ℕ) → sound s ≡ true
+      → call s (setClock t b) .number ≡ 13 ↔ ((s .clock ≤ t) × (t ≤ lastClock) × (length b < 17 * length (passed (view s) t .rows)))
+  -- 13 is given for a list that is shorter than the held events, and not for one that they fit
+  pub short-list : (s : Schedule) (r : List Record) → sound s ≡ true → call s (list r) .number ≡ 13 ↔ (length r < length (view s .entries))
   -- the same reading is accepted, whatever the buffer, and writes nothing
   pub same-reading : (s : Schedule) (b : List ℕ) → sound s ≡ true
       → call s (setClock (s .clock) b) ≡ record { number = 0; value = count 0; state = s; bytes = b; records = [] }
