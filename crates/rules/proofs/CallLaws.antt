@@ -3,7 +3,7 @@ use mathlib.Core.Path.{_≡_, refl, sym, ap, _∙_, subst}
 use mathlib.Core.Logic.{_↔_, inl, inr}
 use Prim.Native.Nat.{ℕ, _-_, _*_, _<_, _≤_}
 use mathlib.Core.Bool.{Bool, true, false, cond, not}
-use mathlib.Core.List.{List, [], _∷_}
+use mathlib.Core.List.{List, [], _∷_, map}
 use mathlib.Core.Option.{some}
 use native.Mathlib.Omega.{arith}
 use lib.Dec.{ltb, eqb}
@@ -19,10 +19,12 @@ use Rattle.rules.specs.Moments.{advance, passed}
 use Rattle.rules.specs.Bytes.{bytes, flat}
 use Rattle.rules.specs.Sound.{malformed, sameEvent, sound}
 use Rattle.rules.specs.Refusals.{Check, firstOf, find, programChecks, eventChecks, cancelChecks, clockChecks, askChecks, listChecks}
-use Rattle.rules.specs.Calls.{Call, addProgram, deliver, cancel, setClock, ask, list, code, count, entryId, does, checks, refusal, accepts, accepted, refused, lentBytes, lentList, call}
+use Rattle.rules.specs.Calls.{Call, addProgram, deliver, cancel, setClock, ask, list, code, count, entryId, withEntries, mark, cancelCode, does, checks, refusal, accepts, accepted, refused, lentBytes, lentList, call}
 use Rattle.rules.specs.Clauses.{Fit, CallClauses}
 use Rattle.rules.proofs.Tests.{each-true, first-not}
 use Rattle.rules.proofs.SoundState.{Sound, ById, same-event, view-pad, sound-pad, sound-view, pad-view, rules}
+use Rattle.rules.proofs.SoundKept.{sound-call}
+use Rattle.rules.proofs.Cancelled.{somebody, nobody-missing, find-marked}
 use Rattle.rules.proofs.Refused.{ten, short-buffer, short-list}
 
 unchanged : (s : Schedule) (c : Call) → (call s c .number ≡ 0 → ⊥) → (call s c .state ≡ s) × (call s c .bytes ≡ lentBytes c) × (call s c .records ≡ lentList c)
@@ -115,6 +117,29 @@ module _ (s : Schedule) (e : sound s ≡ true) (h : Entry) (m : In h (view s .en
       let r8 = first-not 8 (not (sameEvent (h .event) d)) _ refl (r7 .1) in
       f (same-event (h .event) d (not-false (sameEvent (h .event) d) (r8 .0)))
 
+-- Cancellations.
+
+-- what a cancellation gives to the event that is found under its id
+cancel-found : (s : Schedule) → sound s ≡ true → (i : ℕ) (h : Entry) → find i (view s .entries) ≡ some h
+    → (call s (cancel i) .number ≡ 0) × (call s (cancel i) .value ≡ cond (h .cancelled) (code 0) (code 6))
+unfolding checks does
+cancel-found s e i h f =
+    let d = done s e (cancel i) (nobody-missing (find i (view s .entries)) h f) in
+    (ap (λ o. o .number) d, ap (λ o. o .value) d ∙ ap cancelCode f)
+
+cancelled-again : (s : Schedule) (i : ℕ) → sound s ≡ true → call s (cancel i) .number ≡ 0
+    → (call (call s (cancel i) .state) (cancel i) .number ≡ 0) × (call (call s (cancel i) .state) (cancel i) .value ≡ code 0)
+unfolding checks does
+cancelled-again s i e z =
+    let ok : firstOf (checks (view s) (cancel i)) ≡ 0 = sym (own s e (cancel i)) ∙ z in
+    let h = somebody (find i (view s .entries)) ok in
+    let o = find-marked i (h .0) (view s .entries) (h .1) in
+    let left : view (call s (cancel i) .state) ≡ withEntries (view s) (map (mark i) (view s .entries)) = ap (λ o. view (o .state)) (done s e (cancel i) ok) ∙ view-pad _ in
+    let r = cancel-found (call s (cancel i) .state) (sound-call s e (cancel i)) i (o .0) (ap (λ s. find i (s .entries)) left ∙ o .1) in
+    (r .0, r .1 ∙ ap (λ b. cond b (code 0) (code 6)) (o .2))
+
+-- Numbers 10 and 13.
+
 full : (s : Schedule) (d : Event) → sound s ≡ true → call s (deliver d) .number ≡ 10 ↔ ((length (view s .entries) ≡ 48) × Fit (view s) d)
 unfolding checks
 full s d e =
@@ -150,6 +175,8 @@ call-clauses = record {
   broken = broken;
   again = λ s h e m. again s e h m;
   redrawn = λ s h d e m. redrawn s e h m d;
+  cancelled = λ s h e m. cancel-found s e (entryId h) h (held s e h m);
+  cancelled-again = cancelled-again;
   full = full;
   too-short = too-short;
   short-list = too-few;

@@ -25,6 +25,7 @@ pub mod Interval
 pub mod Bound
 pub mod Nobody
 pub mod Refused
+pub mod Cancelled
 pub mod CallLaws
 pub mod FaceLaws
 pub mod RowBytes

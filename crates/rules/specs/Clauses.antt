@@ -22,7 +22,7 @@ use Rattle.rules.specs.Rows.{Row, codeAt, rowsWith, rowsAt, ending, supe
 use Rattle.rules.specs.Moments.{Moved, second, passed}
 use Rattle.rules.specs.Sound.{malformed, sound}
 use Rattle.rules.specs.Refusals.{late}
-use Rattle.rules.specs.Calls.{Call, deliver, setClock, list, code, count, numberOf, valueOf, lentBytes, lentList, call}
+use Rattle.rules.specs.Calls.{Call, deliver, cancel, setClock, list, code, count, numberOf, valueOf, lentBytes, lentList, call}
 use Rattle.rules.specs.Image.{imageSize, image, loaded, imaged}
 use Rattle.rules.specs.Face.{Operation, asCall, idTooLong, shown, negative, lentAfter, FaceOutcome, face, faceFresh}
 use Rattle.rules.specs.Schedules.{Timed, goneBy, holding, seen}
@@ -130,6 +130,12 @@ pub record CallClauses : Type 0 where
   -- an event with another field under a held id, a fresh draw too, is never accepted
   pub redrawn : (s : Schedule) (h : Entry) (e : Event) → sound s ≡ true → In h (view s .entries) → idOf (h .event) ≡ idOf e → (h .event ≡ e → ⊥)
       → call s (deliver e) .number ≡ 0 → ⊥
+  -- a cancellation of a held event gives code 6, or 0 if it was cancelled before
+  pub cancelled : (s : Schedule) (h : Entry) → sound s ≡ true → In h (view s .entries)
+      → (call s (cancel (idOf (h .event))) .number ≡ 0) × (call s (cancel (idOf (h .event))) .value ≡ cond (h .cancelled) (code 0) (code 6))
+  -- after an accepted cancellation the same one again gives code 0
+  pub cancelled-again : (s : Schedule) (i : ℕ) → sound s ≡ true → call s (cancel i) .number ≡ 0
+      → (call (call s (cancel i) .state) (cancel i) .number ≡ 0) × (call (call s (cancel i) .state) (cancel i) .value ≡ code 0)
   -- 10 is given at 48 held events and not before, to an event to which no number before 10 applies
   pub full : (s : Schedule) (e : Event) → sound s ≡ true → call s (deliver e) .number ≡ 10 ↔ ((length (view s .entries) ≡ 48) × Fit (view s) e)
   -- 13 is given for a buffer that is shorter than the rows, and not for one that they fit
