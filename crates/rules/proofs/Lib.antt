@@ -22,6 +22,8 @@ pub mod Ranges
 pub mod Lengths
 pub mod Jump
 pub mod Interval
+pub mod CodeLaws
+pub mod RowLaws
 pub mod Bound
 pub mod Nobody
 pub mod Refused

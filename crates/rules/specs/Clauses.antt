@@ -79,10 +79,32 @@ pub record HoldingClauses (ps : List Program) (ts : List Timed) : Type 0 where
   -- at most one holder of a control at a moment
   pub one-holder : (t c : ℕ) (x y : Timed) → In x ts → In y ts → (idOf (x .event) ≡ idOf (y .event) → ⊥) → Holds ps ts t c x → Holds ps ts t c y → ⊥
 
+-- the event holds some control at the moment
+abbrev pub HoldsAny : List Program → List Timed → ℕ → Timed → Type 0
+HoldsAny ps ts t x = (c : ℕ) × Holds ps ts t c x
+
+-- Response rows, code: what the event gives at moment suc t, 0 for nothing
+abbrev pub codeGiven : List Program → List Timed → ℕ → Timed → ℕ
+codeGiven ps ts t x = codeAt (suc t) (seen ps ts t x) (holding ps ts (suc t) x)
+
+-- Response rows, of a history's events
+pub record RowClauses (ps : List Program) (ts : List Timed) : Type 0 where
+  -- an event not cancelled before the moment gives 2 at its start if it holds any control then
+  pub at-start : (t : ℕ) (x : Timed) → codeGiven ps ts t x ≡ 2 ↔ ((x .begins ≡ suc t) × Standing (suc t) x × HoldsAny ps ts (suc t) x)
+  -- 3 at its end if it held any until then
+  pub at-end : (t : ℕ) (x : Timed) → codeGiven ps ts t x ≡ 3 ↔ ((ends x ≡ suc t) × Standing (suc t) x × HoldsAny ps ts t x)
+  -- 7 at its start if it holds none, or when its last control is taken
+  pub superseded : (t : ℕ) (x : Timed)
+      → codeGiven ps ts t x ≡ 7 ↔ ((suc t < ends x) × Standing (suc t) x × (HoldsAny ps ts (suc t) x → ⊥) × ((x .begins ≡ suc t) ⊎ HoldsAny ps ts t x))
+  -- and a better one takes it: each control that it held a second before
+  pub taken : (t c : ℕ) (x : Timed) → codeGiven ps ts t x ≡ 7 → Holds ps ts t c x → (o : Timed) × In o ts × Better ps o x × Holds ps ts (suc t) c o
+  -- it gives no other code
+  pub only : (t : ℕ) (x : Timed) → (codeGiven ps ts t x ≡ 0) ⊎ ((codeGiven ps ts t x ≡ 2) ⊎ ((codeGiven ps ts t x ≡ 3) ⊎ (codeGiven ps ts t x ≡ 7)))
+
 -- Response rows: how many an event has given up to moment t
 unfoldable pub given : List Program → List Timed → ℕ → Timed → ℕ
 given ps ts zero x = 0
-given ps ts (suc t) x = given ps ts t x + cond (eqb (codeAt (suc t) (seen ps ts t x) (holding ps ts (suc t) x)) 0) 0 1
+given ps ts (suc t) x = given ps ts t x + cond (eqb (codeGiven ps ts t x) 0) 0 1
 
 -- whether an entry begins or ends at moment t
 unfoldable pub busy : ℕ → List Entry → Bool
@@ -179,6 +201,7 @@ pub record ImageKept (s : Schedule) : Type 0 where
 pub record Clauses : Type 0 where
   pub rank : RankClauses
   pub holding : (ps : List Program) (ts : List Timed) → HoldingClauses ps ts
+  pub rows : (ps : List Program) (ts : List Timed) → RowClauses ps ts
   pub moments : MomentClauses
   pub calls : CallClauses
   pub answers : AnswerClause

@@ -1,6 +1,7 @@
 -- The promise is the theorem: the clauses, each by its law.
 use Rattle.rules.proofs.Ranks.{better-self, better-trans, better-one}
 use Rattle.rules.proofs.Interval.{holding-clauses}
+use Rattle.rules.proofs.RowLaws.{row-clauses}
 use Rattle.rules.proofs.Claims.{code-cancelled}
 use Rattle.rules.proofs.Nobody.{blocks-nobody}
 use Rattle.rules.proofs.Bound.{two-rows, few-rows}
@@ -17,6 +18,7 @@ returns : tie.Need-returns
 returns c = record {
   rank = record { strict = better-self; transitive = better-trans; total = better-one };
   holding = holding-clauses;
+  rows = row-clauses;
   moments = record { blocks-nobody = blocks-nobody; silent = code-cancelled; two-rows = two-rows; few-rows = few-rows; quiet = λ s e. quiet-second (view s) (sound-view s e) };
   calls = call-clauses;
   answers = answer-clause;
