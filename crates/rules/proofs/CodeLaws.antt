@@ -93,13 +93,13 @@ module _ (t : ℕ) (h : Entry) (now : Holding) where
 
   -- The cases.
 
-  pub data Told : Type 0 where
+  data Told : Type 0 where
     silent : codeAt t h now ≡ 0 → Told
     starts : codeAt t h now ≡ 2 → Starts → Told
     ends : codeAt t h now ≡ 3 → Ends → Told
     loses : codeAt t h now ≡ 7 → Loses → Told
 
-  pub told : Told
+  told : Told
   told =
       go (h .cancelled) (ltb (endOf h) t) (ltb t (h .begins)) (eqb (endOf h) t) (eqb (h .begins) t) (eqb (h .held) 0) (eqb (now .held) 0) refl refl refl refl refl refl refl
     where
@@ -131,3 +131,41 @@ module _ (t : ℕ) (h : Entry) (now : Holding) where
       go false false false false false false true g o e f b d n =
           losing (record { standing = g; begun = ltb-false t (h .begins) e; lasts = lasting o f; none = eqb-true (now .held) 0 n; cause = inr (eqb-false (h .held) 0 d) })
       go false false false false false false false g o e f b d n = silent (code-goes-on (eqb-false (endOf h) t f) (eqb-false (h .begins) t b) (eqb-false (now .held) 0 n))
+
+  -- A code says its case.
+
+  pub is-start : codeAt t h now ≡ 2 → Starts
+  is-start e = go told
+    where
+      go : Told → Starts
+      go (silent z) = absurd (eqb-false 0 2 refl (sym z ∙ e))
+      go (starts z v) = v
+      go (ends z v) = absurd (eqb-false 3 2 refl (sym z ∙ e))
+      go (loses z v) = absurd (eqb-false 7 2 refl (sym z ∙ e))
+
+  pub is-end : codeAt t h now ≡ 3 → Ends
+  is-end e = go told
+    where
+      go : Told → Ends
+      go (silent z) = absurd (eqb-false 0 3 refl (sym z ∙ e))
+      go (starts z v) = absurd (eqb-false 2 3 refl (sym z ∙ e))
+      go (ends z v) = v
+      go (loses z v) = absurd (eqb-false 7 3 refl (sym z ∙ e))
+
+  pub is-loss : codeAt t h now ≡ 7 → Loses
+  is-loss e = go told
+    where
+      go : Told → Loses
+      go (silent z) = absurd (eqb-false 0 7 refl (sym z ∙ e))
+      go (starts z v) = absurd (eqb-false 2 7 refl (sym z ∙ e))
+      go (ends z v) = absurd (eqb-false 3 7 refl (sym z ∙ e))
+      go (loses z v) = v
+
+  pub one-of-four : (codeAt t h now ≡ 0) ⊎ ((codeAt t h now ≡ 2) ⊎ ((codeAt t h now ≡ 3) ⊎ (codeAt t h now ≡ 7)))
+  one-of-four = go told
+    where
+      go : Told → (codeAt t h now ≡ 0) ⊎ ((codeAt t h now ≡ 2) ⊎ ((codeAt t h now ≡ 3) ⊎ (codeAt t h now ≡ 7)))
+      go (silent z) = inl z
+      go (starts z v) = inr (inl z)
+      go (ends z v) = inr (inr (inl z))
+      go (loses z v) = inr (inr (inr z))

@@ -24,6 +24,7 @@ pub mod Jump
 pub mod Interval
 pub mod CodeLaws
 pub mod RowLaws
+pub mod RowOrder
 pub mod Bound
 pub mod Nobody
 pub mod Refused

@@ -33,6 +33,7 @@ use Rattle.rules.proofs.SoundState.{Sound, sound-pad}
 use Rattle.rules.proofs.SoundKept.{refusal-pad, call-pad}
 use Rattle.rules.proofs.CallLaws.{not-two, own-pad}
 use Rattle.rules.proofs.Scheduled.{Numbered, Inv, Step, scheduled}
+use Rattle.rules.proofs.RowOrder.{rows-ascend}
 use Rattle.rules.proofs.OneHolder.{one-holder}
 use Rattle.rules.proofs.Members.{programs-same, in-cancellations, cancellations-in}
 
@@ -216,6 +217,7 @@ as-scheduled cs =
     record {
       state = n .state;
       rows = joined-is cs;
+      ascending = rows-ascend (programsOf (historyOf cs .programs)) (timesOf (historyOf cs)) (n .inv .kept .ascending) (n .inv .kept .proper) (historyOf cs .last);
       listed = λ lent l. rw (n .state) (listed-is (historyOf cs) (n .inv) (n .sound) lent l);
       asked = λ c l. rw (n .state) (asked-is (historyOf cs) (n .inv) (n .sound) c l);
       refusals = λ before rest c e. refusals before c;

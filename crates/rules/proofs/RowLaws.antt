@@ -1,11 +1,11 @@
 -- Which code an event gives at a moment: the cases of its entry (CodeLaws), said of what the event holds then and a second before.
 use mathlib.Core.Path.{_≡_, refl, sym, ap, _∙_}
 use mathlib.Core.Logic.{_↔_, _⊎_, inl, inr, ⊎-elim}
-use Prim.Native.Nat.{ℕ, suc, _<_, _≤_}
+use Prim.Native.Nat.{ℕ, suc, _<_}
 use native.Mathlib.Omega.{arith}
 use mathlib.Core.Bool.{Bool, true, false, cond}
 use mathlib.Core.List.{List, map}
-use borrow.Author.Tests.{leb-false, eqb-false}
+use borrow.Author.Tests.{leb-false}
 use Rattle.rules.specs.declared.Entry.{Entry}
 use Rattle.rules.specs.declared.Program.{Program}
 use Rattle.rules.specs.Lists.{In}
@@ -17,7 +17,7 @@ use Rattle.rules.proofs.ListLaws.{in-map}
 use Rattle.rules.proofs.Masks.{not-has, no-bits, some-bit}
 use Rattle.rules.proofs.Holders.{held-if, blocked}
 use Rattle.rules.proofs.Interval.{claim-later, not-gone, begun, not-after}
-use Rattle.rules.proofs.CodeLaws.{Starts, Ends, Loses, code-starts, code-ends, code-loses, Told, silent, starts, ends as ended, loses, told}
+use Rattle.rules.proofs.CodeLaws.{Loses, code-starts, code-ends, code-loses, is-start, is-end, is-loss, one-of-four}
 
 module _ (ps : List Program) (ts : List Timed) (t : ℕ) (x : Timed) where
   -- what it is a second before, and what it carries at the moment
@@ -30,42 +30,6 @@ module _ (ps : List Program) (ts : List Timed) (t : ℕ) (x : Timed) where
   abbrev before : ℕ
   before = holding ps ts t x .held
 
-  given-starts : codeGiven ps ts t x ≡ 2 → Starts (suc t) it now
-  given-starts e = go (told (suc t) it now)
-    where
-      go : Told (suc t) it now → Starts (suc t) it now
-      go (silent z) = absurd (eqb-false 0 2 refl (sym z ∙ e))
-      go (starts z v) = v
-      go (ended z v) = absurd (eqb-false 3 2 refl (sym z ∙ e))
-      go (loses z v) = absurd (eqb-false 7 2 refl (sym z ∙ e))
-
-  given-ends : codeGiven ps ts t x ≡ 3 → Ends (suc t) it now
-  given-ends e = go (told (suc t) it now)
-    where
-      go : Told (suc t) it now → Ends (suc t) it now
-      go (silent z) = absurd (eqb-false 0 3 refl (sym z ∙ e))
-      go (starts z v) = absurd (eqb-false 2 3 refl (sym z ∙ e))
-      go (ended z v) = v
-      go (loses z v) = absurd (eqb-false 7 3 refl (sym z ∙ e))
-
-  given-loses : codeGiven ps ts t x ≡ 7 → Loses (suc t) it now
-  given-loses e = go (told (suc t) it now)
-    where
-      go : Told (suc t) it now → Loses (suc t) it now
-      go (silent z) = absurd (eqb-false 0 7 refl (sym z ∙ e))
-      go (starts z v) = absurd (eqb-false 2 7 refl (sym z ∙ e))
-      go (ended z v) = absurd (eqb-false 3 7 refl (sym z ∙ e))
-      go (loses z v) = v
-
-  only : (codeGiven ps ts t x ≡ 0) ⊎ ((codeGiven ps ts t x ≡ 2) ⊎ ((codeGiven ps ts t x ≡ 3) ⊎ (codeGiven ps ts t x ≡ 7)))
-  only = go (told (suc t) it now)
-    where
-      go : Told (suc t) it now → (codeGiven ps ts t x ≡ 0) ⊎ ((codeGiven ps ts t x ≡ 2) ⊎ ((codeGiven ps ts t x ≡ 3) ⊎ (codeGiven ps ts t x ≡ 7)))
-      go (silent z) = inl z
-      go (starts z v) = inr (inl z)
-      go (ended z v) = inr (inr (inl z))
-      go (loses z v) = inr (inr (inr z))
-
   -- not gone after the moment before: no cancellation before the moment
   stands : goneBy t (x .cancelled) ≡ false → Standing (suc t) x
   stands e k q = leb-false k t (sym (ap (goneBy t) q) ∙ e)
@@ -76,7 +40,7 @@ module _ (ps : List Program) (ts : List Timed) (t : ℕ) (x : Timed) where
 
   start-law : codeGiven ps ts t x ≡ 2 ↔ ((x .begins ≡ suc t) × Standing (suc t) x × HoldsAny ps ts (suc t) x)
   start-law = (
-    λ e. let v = given-starts e in (v .begins, stands (v .standing), some-bit (now .held) (v .holds)),
+    λ e. let v = is-start (suc t) it now e in (v .begins, stands (v .standing), some-bit (now .held) (v .holds)),
     λ e. code-starts (suc t) it now (record {
       standing = not-gone t (x .cancelled) (e .1);
       begins = e .0;
@@ -87,7 +51,7 @@ module _ (ps : List Program) (ts : List Timed) (t : ℕ) (x : Timed) where
 
   end-law : codeGiven ps ts t x ≡ 3 ↔ ((ends x ≡ suc t) × Standing (suc t) x × HoldsAny ps ts t x)
   end-law = (
-    λ e. let v = given-ends e in (v .ends, stands (v .standing), some-bit before (λ z. v .held (seen-whole (v .standing) ∙ z))),
+    λ e. let v = is-end (suc t) it now e in (v .ends, stands (v .standing), some-bit before (λ z. v .held (seen-whole (v .standing) ∙ z))),
     λ e. let s = not-gone t (x .cancelled) (e .1) in code-ends (suc t) it now (record {
       standing = s;
       ends = e .0;
@@ -101,7 +65,7 @@ module _ (ps : List Program) (ts : List Timed) (t : ℕ) (x : Timed) where
     where
       only-if : codeGiven ps ts t x ≡ 7 → (suc t < ends x) × Standing (suc t) x × (HoldsAny ps ts (suc t) x → ⊥) × ((x .begins ≡ suc t) ⊎ HoldsAny ps ts t x)
       only-if e =
-          let v = given-loses e in (
+          let v = is-loss (suc t) it now e in (
             v .lasts,
             stands (v .standing),
             λ a. not-has (now .held) (a .0) (v .none) (a .1),
@@ -128,7 +92,7 @@ module _ (ps : List Program) (ts : List Timed) (t : ℕ) (x : Timed) where
       hs = map (seen ps ts t) ts
 
       v : Loses (suc t) it now
-      v = given-loses e
+      v = is-loss (suc t) it now e
 
       claims : has (claim (suc t) it) c ≡ true
       claims =
@@ -147,5 +111,5 @@ row-clauses ps ts = record {
   at-end = end-law ps ts;
   superseded = superseded-law ps ts;
   taken = λ t c x. taken-law ps ts t x c;
-  only = only ps ts;
+  only = λ t x. one-of-four (suc t) (seen ps ts t x) (holding ps ts (suc t) x);
 }

@@ -12,6 +12,7 @@ use Rattle.rules.specs.declared.Schedule.{Schedule}
 use Rattle.rules.specs.Lists.{over, In, Same, Pairwise}
 use Rattle.rules.specs.Records.{idOf, has, fresh, pad}
 use Rattle.rules.specs.Period.{drawnStart}
+use Rattle.rules.specs.Rows.{Sooner}
 use Rattle.rules.specs.Bytes.{bytes}
 use Rattle.rules.specs.Refusals.{firstOf}
 use Rattle.rules.specs.Calls.{Call, list, ask, Value, count, holder, Outcome, recordOf, defaultFor, bestDefault, checks, counted, call, run, joined}
@@ -124,6 +125,8 @@ pub record AsScheduled (cs : List Call) : Type 0 where
   pub state : after cs ≡ pad (stateOf (historyOf cs))
   -- the joined rows are the schedule's rows for the moments from 1 to the last reading
   pub rows : joinedRows cs ≡ bytes (rowsOf (historyOf cs))
+  -- the schedule's rows go by time, then code in the order 3, 7, 2, then id
+  pub ascending : Pairwise Sooner (rowsOf (historyOf cs))
   -- every listing that is long enough gives the held events
   pub listed : (lent : List Record) → length (heldOf (historyOf cs)) ≤ length lent → Listed (historyOf cs) lent (call (after cs) (list lent))
   -- every question is answered by the holder or the default

@@ -14,11 +14,11 @@ use Rattle.rules.specs.declared.Entry.{Entry}
 use Rattle.rules.specs.declared.Program.{Program}
 use Rattle.rules.specs.declared.Record.{Record}
 use Rattle.rules.specs.declared.Schedule.{Schedule}
-use Rattle.rules.specs.Lists.{In, All}
+use Rattle.rules.specs.Lists.{In, All, Pairwise}
 use Rattle.rules.specs.Records.{State, idOf, has, lastClock, programAt, fresh, view, pad}
 use Rattle.rules.specs.Period.{effectiveEnd}
 use Rattle.rules.specs.Holding.{Rank, rankOf, better, heldAt, Holding, endOf}
-use Rattle.rules.specs.Rows.{Row, codeAt, rowsWith, rowsAt, ending, superseded, starting}
+use Rattle.rules.specs.Rows.{codeAt, Sooner}
 use Rattle.rules.specs.Moments.{Moved, second, passed}
 use Rattle.rules.specs.Sound.{malformed, sound}
 use Rattle.rules.specs.Refusals.{late}
@@ -96,7 +96,7 @@ pub record RowClauses (ps : List Program) (ts : List Timed) : Type 0 where
   -- 7 at its start if it holds none, or when its last control is taken
   pub superseded : (t : ℕ) (x : Timed)
       → codeGiven ps ts t x ≡ 7 ↔ ((suc t < ends x) × Standing (suc t) x × (HoldsAny ps ts (suc t) x → ⊥) × ((x .begins ≡ suc t) ⊎ HoldsAny ps ts t x))
-  -- and a better one takes it: each control that it held a second before
+  -- and a better one takes it, as each control that it held a second before
   pub taken : (t c : ℕ) (x : Timed) → codeGiven ps ts t x ≡ 7 → Holds ps ts t c x → (o : Timed) × In o ts × Better ps o x × Holds ps ts (suc t) c o
   -- it gives no other code
   pub only : (t : ℕ) (x : Timed) → (codeGiven ps ts t x ≡ 0) ⊎ ((codeGiven ps ts t x ≡ 2) ⊎ ((codeGiven ps ts t x ≡ 3) ⊎ (codeGiven ps ts t x ≡ 7)))
@@ -120,6 +120,8 @@ pub record MomentClauses : Type 0 where
   pub silent : (t : ℕ) (h : Entry) (now : Holding) → h .cancelled ≡ true → codeAt t h now ≡ 0
   -- an event gives at most two rows in its life
   pub two-rows : (ps : List Program) (ts : List Timed) (t : ℕ) (x : Timed) → given ps ts t x ≤ 2
+  -- the rows of a clock call go by time, then code in the order 3, 7, 2, then id
+  pub in-order : (s : Schedule) → sound s ≡ true → (reading : ℕ) → Pairwise Sooner (passed (view s) reading .rows)
   -- a clock call gives at most two for each held event, so at most 96
   pub few-rows : (s : Schedule) → sound s ≡ true → (reading : ℕ) → length (passed (view s) reading .rows) ≤ 96
   -- where nothing begins or ends, a second changes the clock alone

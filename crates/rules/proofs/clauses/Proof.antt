@@ -5,6 +5,7 @@ use Rattle.rules.proofs.RowLaws.{row-clauses}
 use Rattle.rules.proofs.Claims.{code-cancelled}
 use Rattle.rules.proofs.Nobody.{blocks-nobody}
 use Rattle.rules.proofs.Bound.{two-rows, few-rows}
+use Rattle.rules.proofs.RowOrder.{in-order}
 use Rattle.rules.proofs.SoundState.{sound-view}
 use Rattle.rules.proofs.SoundKept.{sound-call}
 use Rattle.rules.proofs.CallLaws.{call-clauses}
@@ -19,7 +20,7 @@ returns c = record {
   rank = record { strict = better-self; transitive = better-trans; total = better-one };
   holding = holding-clauses;
   rows = row-clauses;
-  moments = record { blocks-nobody = blocks-nobody; silent = code-cancelled; two-rows = two-rows; few-rows = few-rows; quiet = λ s e. quiet-second (view s) (sound-view s e) };
+  moments = record { blocks-nobody = blocks-nobody; silent = code-cancelled; two-rows = two-rows; in-order = in-order; few-rows = few-rows; quiet = λ s e. quiet-second (view s) (sound-view s e) };
   calls = call-clauses;
   answers = answer-clause;
   face = face-clauses;
