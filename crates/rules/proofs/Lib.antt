@@ -30,6 +30,7 @@ pub mod Nobody
 pub mod Refused
 pub mod Cancelled
 pub mod CallLaws
+pub mod Defaults
 pub mod FaceLaws
 pub mod RowBytes
 pub mod Scheduled

@@ -22,7 +22,7 @@ use Rattle.rules.specs.Rows.{codeAt, Sooner}
 use Rattle.rules.specs.Moments.{Moved, second, passed}
 use Rattle.rules.specs.Sound.{malformed, sound}
 use Rattle.rules.specs.Refusals.{late}
-use Rattle.rules.specs.Calls.{Call, deliver, cancel, setClock, list, code, count, numberOf, valueOf, lentBytes, lentList, call}
+use Rattle.rules.specs.Calls.{Call, deliver, cancel, setClock, list, code, count, numberOf, valueOf, Ranked, bestDefault, lentBytes, lentList, call}
 use Rattle.rules.specs.Image.{imageSize, image, loaded, imaged}
 use Rattle.rules.specs.Face.{Operation, asCall, idTooLong, shown, negative, lentAfter, FaceOutcome, face, faceFresh}
 use Rattle.rules.specs.Schedules.{Timed, goneBy, holding, seen}
@@ -171,6 +171,25 @@ pub record CallClauses : Type 0 where
   pub same-reading : (s : Schedule) (b : List ℕ) → sound s ≡ true
       → call s (setClock (s .clock) b) ≡ record { number = 0; value = count 0; state = s; bytes = b; records = [] }
 
+-- the program under the number was added, and its defaults carry the control
+abbrev pub Offers : List Program → ℕ → ℕ → Type 0
+Offers ps c n = (n < length ps) × (programAt ps n .added ≡ true) × (has (programAt ps n .defaults) c ≡ true)
+
+-- Calls, ask for a control: the program is the one whose default holds where no event does
+pub record BestOffer (ps : List Program) (c : ℕ) (r : Ranked) : Type 0 where
+  -- its defaults carry the control
+  pub offers : Offers ps c (r .number)
+  pub primacy : programAt ps (r .number) .primacy ≡ r .primacy
+  -- the best primacy of those that do; ties: smaller number
+  pub best : (n : ℕ) → Offers ps c n → (r .primacy < programAt ps n .primacy) ⊎ ((r .primacy ≡ programAt ps n .primacy) × (r .number ≤ n))
+
+-- Calls, ask for a control: the default
+pub record DefaultClause : Type 0 where
+  -- else the program with the best primacy whose defaults carry it (ties: smaller number)
+  pub best : (ps : List Program) (c : ℕ) (r : Ranked) → bestDefault c 0 ps ≡ some r ↔ BestOffer ps c r
+  -- else none
+  pub nobody : (ps : List Program) (c : ℕ) → bestDefault c 0 ps ≡ none ↔ ((n : ℕ) → Offers ps c n → ⊥)
+
 -- Form by location, answers that are enums: their numbers and values tell them apart
 pub record AnswerClause : Type 0 where
   pub apart : (a b : Answer) → numberOf a ≡ numberOf b → valueOf a ≡ valueOf b → a ≡ b
@@ -206,6 +225,7 @@ pub record Clauses : Type 0 where
   pub rows : (ps : List Program) (ts : List Timed) → RowClauses ps ts
   pub moments : MomentClauses
   pub calls : CallClauses
+  pub defaults : DefaultClause
   pub answers : AnswerClause
   pub face : FaceClauses
   pub sound : SoundClause

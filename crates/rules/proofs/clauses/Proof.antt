@@ -9,6 +9,7 @@ use Rattle.rules.proofs.RowOrder.{in-order}
 use Rattle.rules.proofs.SoundState.{sound-view}
 use Rattle.rules.proofs.SoundKept.{sound-call}
 use Rattle.rules.proofs.CallLaws.{call-clauses}
+use Rattle.rules.proofs.Defaults.{default-clause}
 use Rattle.rules.proofs.FaceLaws.{answer-clause, face-clauses}
 use Rattle.rules.proofs.Jump.{quiet-second}
 use Rattle.rules.specs.Records.{view}
@@ -22,6 +23,7 @@ returns c = record {
   rows = row-clauses;
   moments = record { blocks-nobody = blocks-nobody; silent = code-cancelled; two-rows = two-rows; in-order = in-order; few-rows = few-rows; quiet = λ s e. quiet-second (view s) (sound-view s e) };
   calls = call-clauses;
+  defaults = default-clause;
   answers = answer-clause;
   face = face-clauses;
   sound = record { kept = sound-call };
