@@ -23,6 +23,7 @@ pub mod Lengths
 pub mod Jump
 pub mod Interval
 pub mod CodeLaws
+pub mod RowsGiven
 pub mod RowLaws
 pub mod RowOrder
 pub mod Bound

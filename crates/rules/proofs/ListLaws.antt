@@ -240,6 +240,13 @@ module _ {A : Type 0} where
   in-append x (y ∷ xs) ys (inl e) = inl (inl e)
   in-append x (y ∷ xs) ys (inr m) = ⊎-elim (λ k. inl (inr k)) (λ k. inr k) (in-append x xs ys m)
 
+  pub append-in : (x : A) (xs ys : List A) → In x xs ⊎ In x ys → In x (xs ++ ys)
+  append-in x [] ys (inl m) = absurd m
+  append-in x [] ys (inr m) = m
+  append-in x (y ∷ xs) ys (inl (inl e)) = inl e
+  append-in x (y ∷ xs) ys (inl (inr m)) = inr (append-in x xs ys (inl m))
+  append-in x (y ∷ xs) ys (inr m) = inr (append-in x xs ys (inr m))
+
   pub asc-append : (R : A → A → Type 0) (xs ys : List A) → Pairwise R xs → Pairwise R ys → All (λ x. All (R x) ys) xs → Pairwise R (xs ++ ys)
   asc-append R [] ys h k f = k
   asc-append R (x ∷ xs) ys h k f =

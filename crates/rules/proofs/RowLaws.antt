@@ -17,6 +17,7 @@ use Rattle.rules.proofs.ListLaws.{in-map}
 use Rattle.rules.proofs.Masks.{not-has, no-bits, some-bit}
 use Rattle.rules.proofs.Holders.{held-if, blocked}
 use Rattle.rules.proofs.Interval.{claim-later, not-gone, begun, not-after}
+use Rattle.rules.proofs.RowsGiven.{rows-are-given}
 use Rattle.rules.proofs.CodeLaws.{Loses, code-starts, code-ends, code-loses, is-start, is-end, is-loss, one-of-four}
 
 module _ (ps : List Program) (ts : List Timed) (t : ℕ) (x : Timed) where
@@ -112,4 +113,5 @@ row-clauses ps ts = record {
   superseded = superseded-law ps ts;
   taken = λ t c x. taken-law ps ts t x c;
   only = λ t x. one-of-four (suc t) (seen ps ts t x) (holding ps ts (suc t) x);
+  rows = rows-are-given ps ts;
 }

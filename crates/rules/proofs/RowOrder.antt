@@ -21,6 +21,7 @@ use Rattle.rules.specs.Schedules.{Timed, seen, rowsTo}
 use Rattle.rules.proofs.ListLaws.{in-keep, in-map, in-append, asc-keep, asc-weaken, asc-with, asc-map, asc-append}
 use Rattle.rules.proofs.Kept.{Before, ends}
 use Rattle.rules.proofs.SoundState.{ById, sound-view}
+use Rattle.rules.proofs.RowsGiven.{moment-by}
 use Rattle.rules.proofs.CodeLaws.{is-start, is-end, is-loss}
 
 -- the ids ascend, or the one ends before the other begins
@@ -74,9 +75,7 @@ module _ (t : ℕ) (now : Entry → Holding) where
         inr (x .0 ∙ sym (y .0), inl (subst (λ k. turn k < turn (b .code)) (sym (x .1)) (subst (λ k. turn m < turn k) (sym (y .1)) l)))
 
     moment-times : All (λ r. r .time ≡ t) (rowsFrom t now hs)
-    unfolding rowsFrom
-    moment-times r m =
-        ⊎-elim (λ i. of-code 3 r i .0) (λ i. ⊎-elim (λ j. of-code 7 r j .0) (λ j. of-code 2 r j .0) (in-append r (of 7) (of 2) i)) (in-append r (of 3) (of 7 ++ of 2) m)
+    moment-times r m = ap (λ r. r .time) (moment-by t now hs r m .3)
 
     moment-order : Pairwise Behind hs → Pairwise Sooner (rowsFrom t now hs)
     unfolding rowsFrom

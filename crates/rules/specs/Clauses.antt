@@ -18,14 +18,14 @@ use Rattle.rules.specs.Lists.{In, All, Pairwise}
 use Rattle.rules.specs.Records.{State, idOf, has, lastClock, programAt, fresh, view, pad}
 use Rattle.rules.specs.Period.{effectiveEnd}
 use Rattle.rules.specs.Holding.{Rank, rankOf, better, heldAt, Holding, endOf}
-use Rattle.rules.specs.Rows.{codeAt, Sooner}
+use Rattle.rules.specs.Rows.{Row, codeAt, Sooner}
 use Rattle.rules.specs.Moments.{Moved, second, passed}
 use Rattle.rules.specs.Sound.{malformed, sound}
 use Rattle.rules.specs.Refusals.{late}
 use Rattle.rules.specs.Calls.{Call, deliver, cancel, setClock, list, code, count, numberOf, valueOf, Ranked, bestDefault, lentBytes, lentList, call}
 use Rattle.rules.specs.Image.{imageSize, image, loaded, imaged}
 use Rattle.rules.specs.Face.{Operation, asCall, idTooLong, shown, negative, lentAfter, FaceOutcome, face, faceFresh}
-use Rattle.rules.specs.Schedules.{Timed, goneBy, holding, seen}
+use Rattle.rules.specs.Schedules.{Timed, goneBy, holding, seen, rowsTo}
 
 -- the event holds the control at the moment
 abbrev pub Holds : List Program → List Timed → ℕ → ℕ → Timed → Type 0
@@ -87,6 +87,10 @@ HoldsAny ps ts t x = (c : ℕ) × Holds ps ts t c x
 abbrev pub codeGiven : List Program → List Timed → ℕ → Timed → ℕ
 codeGiven ps ts t x = codeAt (suc t) (seen ps ts t x) (holding ps ts (suc t) x)
 
+-- Response rows, row: with the code that the event gives at moment suc t
+abbrev pub rowGiven : List Program → List Timed → ℕ → Timed → Row
+rowGiven ps ts t x = record { time = suc t; id = idOf (x .event); code = codeGiven ps ts t x }
+
 -- Response rows, of a history's events
 pub record RowClauses (ps : List Program) (ts : List Timed) : Type 0 where
   -- an event not cancelled before the moment gives 2 at its start if it holds any control then
@@ -100,6 +104,8 @@ pub record RowClauses (ps : List Program) (ts : List Timed) : Type 0 where
   pub taken : (t c : ℕ) (x : Timed) → codeGiven ps ts t x ≡ 7 → Holds ps ts t c x → (o : Timed) × In o ts × Better ps o x × Holds ps ts (suc t) c o
   -- it gives no other code
   pub only : (t : ℕ) (x : Timed) → (codeGiven ps ts t x ≡ 0) ⊎ ((codeGiven ps ts t x ≡ 2) ⊎ ((codeGiven ps ts t x ≡ 3) ⊎ (codeGiven ps ts t x ≡ 7)))
+  -- the rows of the moments from 1 to u are what the events give in them, and nothing else
+  pub rows : (u : ℕ) (r : Row) → In r (rowsTo ps ts u) ↔ ((t : ℕ) × (x : Timed) × (t < u) × In x ts × (codeGiven ps ts t x ≡ 0 → ⊥) × (r ≡ rowGiven ps ts t x))
 
 -- Response rows: how many an event has given up to moment t
 unfoldable pub given : List Program → List Timed → ℕ → Timed → ℕ
