@@ -216,6 +216,7 @@ as-scheduled cs =
     let n = scheduled cs in
     record {
       state = n .state;
+      starts = λ b m. refl;
       rows = joined-is cs;
       ascending = rows-ascend (programsOf (historyOf cs .programs)) (timesOf (historyOf cs)) (n .inv .kept .ascending) (n .inv .kept .proper) (historyOf cs .last);
       listed = λ lent l. rw (n .state) (listed-is (historyOf cs) (n .inv) (n .sound) lent l);

@@ -11,13 +11,13 @@ use Rattle.rules.specs.declared.Record.{Record}
 use Rattle.rules.specs.declared.Schedule.{Schedule}
 use Rattle.rules.specs.Lists.{over, In, Same, Pairwise}
 use Rattle.rules.specs.Records.{idOf, has, fresh, pad}
-use Rattle.rules.specs.Period.{drawnStart}
+use Rattle.rules.specs.Period.{drawnStart, periodOf}
 use Rattle.rules.specs.Rows.{Sooner}
 use Rattle.rules.specs.Bytes.{bytes}
 use Rattle.rules.specs.Refusals.{firstOf}
 use Rattle.rules.specs.Calls.{Call, list, ask, Value, count, holder, Outcome, recordOf, defaultFor, bestDefault, checks, counted, call, run, joined}
 use Rattle.rules.specs.History.{Added, Brought, History, historyOf}
-use Rattle.rules.specs.Schedules.{Timed, programsOf, timesOf, seen, stateOf, rowsOf}
+use Rattle.rules.specs.Schedules.{Timed, timed, programsOf, timesOf, seen, stateOf, rowsOf}
 
 -- the schedule after a list of calls
 abbrev pub after : List Call → Schedule
@@ -123,6 +123,8 @@ pub record NoTwoHolders (cs : List Call) : Type 0 where
 pub record AsScheduled (cs : List Call) : Type 0 where
   -- the schedule by value after the list is that of its history
   pub state : after cs ≡ pad (stateOf (historyOf cs))
+  -- every event that was brought starts at the effective start that its receipt clock gives
+  pub starts : (b : Brought) → In b (historyOf cs .brought) → timed b .begins ≡ periodOf (b .event) (b .receipt) .start
   -- the joined rows are the schedule's rows for the moments from 1 to the last reading
   pub rows : joinedRows cs ≡ bytes (rowsOf (historyOf cs))
   -- the schedule's rows go by time, then code in the order 3, 7, 2, then id
