@@ -1,4 +1,4 @@
--- What the numbers say of a call, and the deliveries and readings that change nothing.
+-- What the numbers say of a call, the deliveries and readings that change nothing, and what a cancellation gives.
 use mathlib.Core.Path.{_≡_, refl, sym, ap, _∙_, subst}
 use mathlib.Core.Logic.{_↔_, inl, inr}
 use Prim.Native.Nat.{ℕ, _-_, _*_, _<_, _≤_}

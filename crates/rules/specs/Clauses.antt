@@ -97,10 +97,10 @@ pub record RowClauses (ps : List Program) (ts : List Timed) : Type 0 where
   pub at-start : (t : ℕ) (x : Timed) → codeGiven ps ts t x ≡ 2 ↔ ((x .begins ≡ suc t) × Standing (suc t) x × HoldsAny ps ts (suc t) x)
   -- 3 at its end if it held any until then
   pub at-end : (t : ℕ) (x : Timed) → codeGiven ps ts t x ≡ 3 ↔ ((ends x ≡ suc t) × Standing (suc t) x × HoldsAny ps ts t x)
-  -- 7 at its start if it holds none, or when its last control is taken
+  -- 7 at its start if it holds none, or when a better one takes its last control
   pub superseded : (t : ℕ) (x : Timed)
       → codeGiven ps ts t x ≡ 7 ↔ ((suc t < ends x) × Standing (suc t) x × (HoldsAny ps ts (suc t) x → ⊥) × ((x .begins ≡ suc t) ⊎ HoldsAny ps ts t x))
-  -- and a better one takes it, as each control that it held a second before
+  -- a better one takes it: each control that it held a second before, a better event holds then
   pub taken : (t c : ℕ) (x : Timed) → codeGiven ps ts t x ≡ 7 → Holds ps ts t c x → (o : Timed) × In o ts × Better ps o x × Holds ps ts (suc t) c o
   -- it gives no other code
   pub only : (t : ℕ) (x : Timed) → (codeGiven ps ts t x ≡ 0) ⊎ ((codeGiven ps ts t x ≡ 2) ⊎ ((codeGiven ps ts t x ≡ 3) ⊎ (codeGiven ps ts t x ≡ 7)))
@@ -140,11 +140,11 @@ pub record Fit (s : State) (e : Event) : Type 0 where
   pub program : e .program ≤ 7
   -- not 6: its program was added
   pub added : programAt (s .programs) (e .program) .added ≡ true
-  -- not 7: no field is out of range
+  -- not 7: nothing in it is out of range
   pub well-formed : malformed e ≡ false
   -- not 8: its id is not held
   pub new : All (λ h. idOf (h .event) ≡ idOf e → ⊥) (s .entries)
-  -- not 9: its end is not too near
+  -- not 9: it does not come too late
   pub in-time : late (s .clock) e ≡ false
 
 -- Calls and Numbers given
@@ -168,7 +168,7 @@ pub record CallClauses : Type 0 where
       → (call (call s (cancel i) .state) (cancel i) .number ≡ 0) × (call (call s (cancel i) .state) (cancel i) .value ≡ code 0)
   -- 10 is given at 48 held events and not before, to an event to which no number before 10 applies
   pub full : (s : Schedule) (e : Event) → sound s ≡ true → call s (deliver e) .number ≡ 10 ↔ ((length (view s .entries) ≡ 48) × Fit (view s) e)
-  -- 13 is given for a buffer that is shorter than the rows, and not for one that they fit
+  -- 13 is given for a buffer that is shorter than the rows, and not for one that they fit; a reading that 12 refuses gets 12
   pub too-short : (s : Schedule) (t : ℕ) (b : List ℕ) → sound s ≡ true
       → call s (setClock t b) .number ≡ 13 ↔ ((s .clock ≤ t) × (t ≤ lastClock) × (length b < 17 * length (passed (view s) t .rows)))
   -- 13 is given for a list that is shorter than the held events, and not for one that they fit
