@@ -1,27 +1,31 @@
--- What the numbers say of a call, and the deliveries and readings that change nothing.
+-- What the numbers say of a call, the deliveries and readings that change nothing, and what a cancellation gives.
 use mathlib.Core.Path.{_≡_, refl, sym, ap, _∙_, subst}
-use mathlib.Core.Logic.{inl, inr}
-use Prim.Native.Nat.{ℕ, _+_, _-_, _*_, _<_, _≤_}
-use mathlib.Core.Bool.{Bool, true, false, cond, not, _||_, _&&_, or-false}
-use mathlib.Core.List.{List, [], _∷_}
-use mathlib.Core.Option.{Option, none, some}
+use mathlib.Core.Logic.{_↔_, inl, inr}
+use Prim.Native.Nat.{ℕ, _-_, _*_, _<_, _≤_}
+use mathlib.Core.Bool.{Bool, true, false, cond, not}
+use mathlib.Core.List.{List, [], _∷_, map}
+use mathlib.Core.Option.{some}
 use native.Mathlib.Omega.{arith}
-use lib.Dec.{ltb, leb, eqb}
+use lib.Dec.{ltb, eqb}
 use lib.ListN.{length}
-use borrow.Author.Tests.{ltb-true, le-ltb, leb-true, eqb-true, eqb-false, eq-eqb, ne-eqb, not-true, not-false}
+use borrow.Author.Tests.{le-ltb, eqb-true, eqb-false, eq-eqb, ne-eqb, not-true, not-false}
 use Rattle.rules.specs.declared.Event.{Event}
 use Rattle.rules.specs.declared.Entry.{Entry}
+use Rattle.rules.specs.declared.Record.{Record}
 use Rattle.rules.specs.declared.Schedule.{Schedule}
 use Rattle.rules.specs.Lists.{each, In, Pairwise}
-use Rattle.rules.specs.Records.{State, idOf, mostEvents, lastClock, programAt, view, pad}
+use Rattle.rules.specs.Records.{State, idOf, lastClock, programAt, view, pad}
 use Rattle.rules.specs.Moments.{advance, passed}
 use Rattle.rules.specs.Bytes.{bytes, flat}
 use Rattle.rules.specs.Sound.{malformed, sameEvent, sound}
-use Rattle.rules.specs.Refusals.{Check, firstOf, find, isNone, differs, late, programChecks, eventChecks, cancelChecks, clockChecks, askChecks, listChecks}
-use Rattle.rules.specs.Calls.{Call, addProgram, deliver, cancel, setClock, ask, list, nothing, code, count, entryId, does, checks, refusal, accepts, accepted, refused, lentBytes, lentList, call}
-use Rattle.rules.specs.Clauses.{CallClauses}
-use Rattle.rules.proofs.Tests.{both, each-true, first-not}
+use Rattle.rules.specs.Refusals.{Check, firstOf, find, programChecks, eventChecks, cancelChecks, clockChecks, askChecks, listChecks}
+use Rattle.rules.specs.Calls.{Call, addProgram, deliver, cancel, setClock, ask, list, code, count, entryId, withEntries, mark, cancelCode, does, checks, refusal, accepts, accepted, refused, lentBytes, lentList, call}
+use Rattle.rules.specs.Clauses.{Fit, CallClauses}
+use Rattle.rules.proofs.Tests.{each-true, first-not}
 use Rattle.rules.proofs.SoundState.{Sound, ById, same-event, view-pad, sound-pad, sound-view, pad-view, rules}
+use Rattle.rules.proofs.SoundKept.{sound-call}
+use Rattle.rules.proofs.Cancelled.{somebody, nobody-missing, find-marked}
+use Rattle.rules.proofs.Refused.{ten, short-buffer, short-list}
 
 unchanged : (s : Schedule) (c : Call) → (call s c .number ≡ 0 → ⊥) → (call s c .state ≡ s) × (call s c .bytes ≡ lentBytes c) × (call s c .records ≡ lentList c)
 unfolding call
@@ -113,37 +117,49 @@ module _ (s : Schedule) (e : sound s ≡ true) (h : Entry) (m : In h (view s .en
       let r8 = first-not 8 (not (sameEvent (h .event) d)) _ refl (r7 .1) in
       f (same-event (h .event) d (not-false (sameEvent (h .event) d) (r8 .0)))
 
--- the last number is given if its test holds
-given : (k : ℕ) (b : Bool) → eqb 0 k ≡ false → cond b k 0 ≡ k → b ≡ true
-given k true f e = refl
-given k false f e = absurd (eqb-false 0 k f e)
+-- Cancellations.
 
--- a test that is not of number k is passed over
-passed-over : (n k : ℕ) (b : Bool) (r : ℕ) → eqb n k ≡ false → cond b n r ≡ k → r ≡ k
-passed-over n k true r f e = absurd (eqb-false n k f e)
-passed-over n k false r f e = e
+-- what a cancellation gives to the event that is found under its id
+cancel-found : (s : Schedule) → sound s ≡ true → (i : ℕ) (h : Entry) → find i (view s .entries) ≡ some h
+    → (call s (cancel i) .number ≡ 0) × (call s (cancel i) .value ≡ cond (h .cancelled) (code 0) (code 6))
+unfolding checks does
+cancel-found s e i h f =
+    let d = done s e (cancel i) (nobody-missing (find i (view s .entries)) h f) in
+    (ap (λ o. o .number) d, ap (λ o. o .value) d ∙ ap cancelCode f)
 
-given-ten : (s : State) (d : Event) (o : Option Entry) → firstOf (eventChecks s d o) ≡ 10 → leb mostEvents (length (s .entries)) ≡ true
-unfolding eventChecks
-given-ten s d o q =
-    let r6 = passed-over 3 10 (ltb 7 (d .program)) _ refl q in
-    let r7 = passed-over 6 10 (not (programAt (s .programs) (d .program) .added)) _ refl r6 in
-    let r8 = passed-over 7 10 (malformed d) _ refl r7 in
-    let r9 = passed-over 8 10 (differs o d) _ refl r8 in
-    let r10 = passed-over 9 10 (isNone o && late (s .clock) d) _ refl r9 in
-    each-true (isNone o) _ (given 10 (isNone o && leb mostEvents (length (s .entries))) refl r10) .1
+cancelled-again : (s : Schedule) (i : ℕ) → sound s ≡ true → call s (cancel i) .number ≡ 0
+    → (call (call s (cancel i) .state) (cancel i) .number ≡ 0) × (call (call s (cancel i) .state) (cancel i) .value ≡ code 0)
+unfolding checks does
+cancelled-again s i e z =
+    let ok : firstOf (checks (view s) (cancel i)) ≡ 0 = sym (own s e (cancel i)) ∙ z in
+    let h = somebody (find i (view s .entries)) ok in
+    let o = find-marked i (h .0) (view s .entries) (h .1) in
+    let left : view (call s (cancel i) .state) ≡ withEntries (view s) (map (mark i) (view s .entries)) = ap (λ o. view (o .state)) (done s e (cancel i) ok) ∙ view-pad _ in
+    let r = cancel-found (call s (cancel i) .state) (sound-call s e (cancel i)) i (o .0) (ap (λ s. find i (s .entries)) left ∙ o .1) in
+    (r .0, r .1 ∙ ap (λ b. cond b (code 0) (code 6)) (o .2))
 
-full : (s : Schedule) (d : Event) → sound s ≡ true → call s (deliver d) .number ≡ 10 → length (view s .entries) ≡ 48
+-- Numbers 10 and 13.
+
+full : (s : Schedule) (d : Event) → sound s ≡ true → call s (deliver d) .number ≡ 10 ↔ ((length (view s .entries) ≡ 48) × Fit (view s) d)
 unfolding checks
-full s d e z =
-    let ten = given-ten (view s) d (find (idOf d) (view s .entries)) (sym (own s e (deliver d)) ∙ z) in
-    omega (arith, leb-true mostEvents (length (view s .entries)) ten, sound-view s e .room)
+full s d e =
+    let r = ten (view s) d in (
+      λ z. let q = r .0 (sym (own s e (deliver d)) ∙ z) in (omega (arith, q .0, sound-view s e .room), q .1),
+      λ f. own s e (deliver d) ∙ r .1 (omega (arith, f .0), f .1),
+    )
 
-too-short : (s : Schedule) (t : ℕ) (b : List ℕ) → sound s ≡ true → call s (setClock t b) .number ≡ 13 → length b < 17 * length (passed (view s) t .rows)
-unfolding checks clockChecks
-too-short s t b e z =
-    let q = passed-over 12 13 (ltb t (s .clock) || ltb lastClock t) _ refl (sym (own s e (setClock t b)) ∙ z) in
-    ltb-true (length b) (17 * length (passed (view s) t .rows)) (given 13 (ltb (length b) (17 * length (passed (view s) t .rows))) refl q)
+too-short : (s : Schedule) (t : ℕ) (b : List ℕ) → sound s ≡ true
+    → call s (setClock t b) .number ≡ 13 ↔ ((s .clock ≤ t) × (t ≤ lastClock) × (length b < 17 * length (passed (view s) t .rows)))
+unfolding checks
+too-short s t b e =
+    let r = short-buffer (s .clock) t (length (passed (view s) t .rows)) (length b) in
+    (λ z. r .0 (sym (own s e (setClock t b)) ∙ z), λ f. own s e (setClock t b) ∙ r .1 f)
+
+too-few : (s : Schedule) (r : List Record) → sound s ≡ true → call s (list r) .number ≡ 13 ↔ (length r < length (view s .entries))
+unfolding checks
+too-few s r e =
+    let q = short-list (length (view s .entries)) (length r) in
+    (λ z. q .0 (sym (own s e (list r)) ∙ z), λ f. own s e (list r) ∙ q .1 f)
 
 same-reading : (s : Schedule) (b : List ℕ) → sound s ≡ true → call s (setClock (s .clock) b) ≡ record { number = 0; value = count 0; state = s; bytes = b; records = [] }
 unfolding checks clockChecks does advance flat
@@ -159,7 +175,10 @@ call-clauses = record {
   broken = broken;
   again = λ s h e m. again s e h m;
   redrawn = λ s h d e m. redrawn s e h m d;
+  cancelled = λ s h e m. cancel-found s e (entryId h) h (held s e h m);
+  cancelled-again = cancelled-again;
   full = full;
   too-short = too-short;
+  short-list = too-few;
   same-reading = same-reading;
 }

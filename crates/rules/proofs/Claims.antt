@@ -2,17 +2,17 @@
 use mathlib.Core.Path.{_≡_, refl, ap, ap₂, _∙_}
 use mathlib.Core.Logic.{inl, inr}
 use Prim.Native.Nat.{ℕ, _<_, _≤_}
-use mathlib.Core.Bool.{Bool, true, false, cond, _||_, or-true}
+use mathlib.Core.Bool.{Bool, true, false, cond, or-true}
 use mathlib.Core.List.{List, [], _∷_, _++_, map}
-use lib.Dec.{ltb, leb}
+use lib.Dec.{ltb}
 use borrow.Author.Tests.{lt-ltb, le-leb}
 use Rattle.rules.specs.declared.Entry.{Entry}
 use Rattle.rules.specs.declared.Program.{Program}
-use Rattle.rules.specs.Lists.{keep, insert, In, All}
+use Rattle.rules.specs.Lists.{keep, insert, All}
 use Rattle.rules.specs.Records.{idOf, join}
 use Rattle.rules.specs.Holding.{rankOf, better, claim, taken, heldAt, Holding, endOf}
 use Rattle.rules.specs.Rows.{codeAt, rowOf, rowsWith, rowsFrom, ending, superseded, starting}
-use Rattle.rules.proofs.Tests.{cond-same}
+use Rattle.rules.proofs.Tests.{cond-same, cond-first}
 use Rattle.rules.proofs.ListLaws.{in-keep, keep-cong, map-cong}
 use Rattle.rules.proofs.Masks.{join-none, cut-none}
 
@@ -32,15 +32,15 @@ claim-early t h l = rw (lt-ltb t (h .begins) l, or-true)
 
 pub code-ended : (t : ℕ) (h : Entry) (k : Holding) → endOf h < t → codeAt t h k ≡ 0
 unfolding codeAt
-code-ended t h k l = rw (lt-ltb (endOf h) t l, or-true)
+code-ended t h k l = simp (lt-ltb (endOf h) t l, or-true)
 
 pub code-cancelled : (t : ℕ) (h : Entry) (k : Holding) → h .cancelled ≡ true → codeAt t h k ≡ 0
 unfolding codeAt
-code-cancelled t h k e = rw e
+code-cancelled t h k e = cond-first (h .cancelled) (ltb (endOf h) t) (ltb t (h .begins)) 0 _ e
 
 pub code-early : (t : ℕ) (h : Entry) (k : Holding) → t < h .begins → codeAt t h k ≡ 0
 unfolding codeAt
-code-early t h k l = rw (lt-ltb t (h .begins) l, or-true)
+code-early t h k l = simp (lt-ltb t (h .begins) l, or-true)
 
 -- What claims nothing takes nothing.
 

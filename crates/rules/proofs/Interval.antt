@@ -29,7 +29,7 @@ claim-first : (t : ℕ) (h : Entry) → h .cancelled ≡ false → h .begins ≡
 unfolding claim
 claim-first t h e b l = rw (e, lt-leb (endOf h) t l, le-ltb t (h .begins) (omega arith), eq-eqb (h .begins) t b)
 
-claim-later : (t : ℕ) (h : Entry) → h .cancelled ≡ false → h .begins < t → t < endOf h → claim t h ≡ h .held
+pub claim-later : (t : ℕ) (h : Entry) → h .cancelled ≡ false → h .begins < t → t < endOf h → claim t h ≡ h .held
 unfolding claim
 claim-later t h e b l = rw (e, lt-leb (endOf h) t l, le-ltb t (h .begins) (omega arith), ne-eqb (h .begins) t (omega arith))
 
@@ -42,7 +42,7 @@ claim-within t c h f = go (h .cancelled || leb (endOf h) t || ltb t (h .begins))
     go false true e = e
     go false false e = f e
 
-not-gone : (t : ℕ) (o : Option ℕ) → ((k : ℕ) → o ≡ some k → t < k) → goneBy t o ≡ false
+pub not-gone : (t : ℕ) (o : Option ℕ) → ((k : ℕ) → o ≡ some k → t < k) → goneBy t o ≡ false
 not-gone t none s = refl
 not-gone t (some k) s = lt-leb k t (s k refl)
 
@@ -103,10 +103,10 @@ module _ (ps : List Program) (ts : List Timed) where
   carries zero c x e = none-first c x e
   carries (suc t) c x e = claim-within (suc t) c (seen ps ts t x) (λ d. carries t c x (seen-held t c x d)) (claimed t c x e)
 
-  begun : (t c : ℕ) (x : Timed) → Holds ps ts t c x → x .begins ≤ t
+  pub begun : (t c : ℕ) (x : Timed) → Holds ps ts t c x → x .begins ≤ t
   begun t c x e = let n : t < x .begins → ⊥ = λ l. idle t c x (holding-early ps ts t x l) e in omega arith
 
-  not-after : (t c : ℕ) (x : Timed) → Holds ps ts t c x → t < ends x
+  pub not-after : (t c : ℕ) (x : Timed) → Holds ps ts t c x → t < ends x
   not-after t c x e = let n : ends x ≤ t → ⊥ = λ l. idle t c x (holding-ended ps ts t x l) e in omega arith
 
   not-cancelled : (t c : ℕ) (x : Timed) → Holds ps ts t c x → Standing t x

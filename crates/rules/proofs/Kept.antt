@@ -155,12 +155,14 @@ module _ (ps : List Program) (ts : List Timed) (c : ℕ) (kept : Kept ps ts c) (
   }
 
   seen-mark : (x : Timed) → In x ts → living c x ≡ true → seen ps less c (cancelTimed i c x) ≡ mark i (seen ps ts c x)
-  seen-mark x m l = rw (holding-cancel ps i c ts c (omega arith) x, l) (go (eqb (timedId x) i))
+  seen-mark x m l = ap (asEntry c (cancelTimed i c x)) (holding-cancel ps i c ts c (omega arith) x) ∙ go (eqb (timedId x) i) (living c x) l
     where
-      go : (b : Bool) → asEntry c (record { event = x .event; begins = x .begins; cancelled = cancelledAt (b && true) c (x .cancelled) }) (holding ps ts c x)
+      go : (b d : Bool) → d ≡ true → asEntry c (record { event = x .event; begins = x .begins; cancelled = cancelledAt (b && d) c (x .cancelled) }) (holding ps ts c x)
           ≡ record { event = x .event; begins = x .begins; held = cond b 0 (seen ps ts c x .held); cancelled = b || goneBy c (x .cancelled) }
-      go true = rw (gone-now c (x .cancelled) (kept .past x m))
-      go false = refl
+      go b false e = both false e refl
+      go true true e =
+          ap (λ g. record { event = x .event; begins = x .begins; held = cond g 0 (holding ps ts c x .held); cancelled = g }) (gone-now c (x .cancelled) (kept .past x m))
+      go false true e = refl
 
   pub entries-cancel : heldEvents ps less c ≡ map (mark i) (heldEvents ps ts c)
   unfolding heldEvents

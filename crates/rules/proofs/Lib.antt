@@ -24,9 +24,16 @@ pub mod Ranges
 pub mod Lengths
 pub mod Jump
 pub mod Interval
+pub mod CodeLaws
+pub mod RowsGiven
+pub mod RowLaws
+pub mod RowOrder
 pub mod Bound
 pub mod Nobody
+pub mod Refused
+pub mod Cancelled
 pub mod CallLaws
+pub mod Defaults
 pub mod FaceLaws
 pub mod RowBytes
 pub mod Scheduled

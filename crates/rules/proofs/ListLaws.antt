@@ -129,6 +129,11 @@ pub asc-weaken : {A : Type 0} (R S : A → A → Type 0) → ((x y : A) → R x 
 asc-weaken R S f [] h = h
 asc-weaken R S f (x ∷ xs) h = (λ y m. f x y (h .0 y m), asc-weaken R S f xs (h .1))
 
+-- what relates two that are in the list
+pub asc-with : {A : Type 0} (R : A → A → Type 0) (P : A → Type 0) (xs : List A) → Pairwise R xs → All P xs → Pairwise (λ x y. R x y × P x × P y) xs
+asc-with R P [] h f = h
+asc-with R P (x ∷ xs) h f = (λ y m. (h .0 y m, f x (inl refl), f y (inr m)), asc-with R P xs (h .1) (λ y m. f y (inr m)))
+
 module _ {A B : Type 0} where
   pub map-cong : (f g : A → B) (xs : List A) → All (λ x. f x ≡ g x) xs → map f xs ≡ map g xs
   map-cong f g [] h = refl
@@ -234,6 +239,18 @@ module _ {A : Type 0} where
   in-append x [] ys m = inr m
   in-append x (y ∷ xs) ys (inl e) = inl (inl e)
   in-append x (y ∷ xs) ys (inr m) = ⊎-elim (λ k. inl (inr k)) (λ k. inr k) (in-append x xs ys m)
+
+  pub append-in : (x : A) (xs ys : List A) → In x xs ⊎ In x ys → In x (xs ++ ys)
+  append-in x [] ys (inl m) = absurd m
+  append-in x [] ys (inr m) = m
+  append-in x (y ∷ xs) ys (inl (inl e)) = inl e
+  append-in x (y ∷ xs) ys (inl (inr m)) = inr (append-in x xs ys (inl m))
+  append-in x (y ∷ xs) ys (inr m) = inr (append-in x xs ys (inr m))
+
+  pub asc-append : (R : A → A → Type 0) (xs ys : List A) → Pairwise R xs → Pairwise R ys → All (λ x. All (R x) ys) xs → Pairwise R (xs ++ ys)
+  asc-append R [] ys h k f = k
+  asc-append R (x ∷ xs) ys h k f =
+      (λ z m. ⊎-elim (λ n. h .0 z n) (λ n. f x (inl refl) z n) (in-append z xs ys m), asc-append R xs ys (h .1) k (λ y m. f y (inr m)))
 
   pub in-take : (x : A) (n : ℕ) (xs : List A) → In x (take n xs) → In x xs
   in-take x (suc n) (y ∷ xs) (inl e) = inl e

@@ -88,6 +88,17 @@ cut-apart a b h = rw (and-apart a b h, xor-zero-r)
 pub no-bits : (m : ℕ) → ((k : ℕ) → has m k ≡ true → ⊥) → m ≡ 0
 no-bits m f = sym (and-self m) ∙ and-apart m m (λ k e d. f k e)
 
+-- and one that is not 0 has a control
+pub some-bit : (m : ℕ) → (m ≡ 0 → ⊥) → (c : ℕ) × (has m c ≡ true)
+some-bit = bin-ind (λ m. (m ≡ 0 → ⊥) → (c : ℕ) × (has m c ≡ true)) (λ f. absurd (f refl)) step
+  where
+    step : (n : ℕ) → ((n / 2 ≡ 0 → ⊥) → (c : ℕ) × (has (n / 2) c ≡ true)) → (n ≡ 0 → ⊥) → (c : ℕ) × (has n c ≡ true)
+    step n ih f = go (n % 2) refl
+      where
+        go : (d : ℕ) → n % 2 ≡ d → (c : ℕ) × (has n c ≡ true)
+        go zero e = let r = ih (λ z. f (omega arith)) in (suc (r .0), sym (has-half n (r .0)) ∙ r .1)
+        go (suc d) e = (0, odd n (omega arith))
+
 pub cut-within : (a b : ℕ) → ((k : ℕ) → has a k ≡ true → has b k ≡ true) → cut a b ≡ 0
 cut-within a b f = no-bits (cut a b) (λ k e. go k (has a k) refl (has b k) refl (sym (has-cut a b k) ∙ e))
   where

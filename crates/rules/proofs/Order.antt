@@ -33,6 +33,7 @@ use Rattle.rules.proofs.SoundState.{Sound, sound-pad}
 use Rattle.rules.proofs.SoundKept.{refusal-pad, call-pad}
 use Rattle.rules.proofs.CallLaws.{not-two, own-pad}
 use Rattle.rules.proofs.Scheduled.{Numbered, Inv, Step, scheduled}
+use Rattle.rules.proofs.RowOrder.{rows-ascend}
 use Rattle.rules.proofs.OneHolder.{one-holder}
 use Rattle.rules.proofs.Members.{programs-same, in-cancellations, cancellations-in}
 
@@ -198,11 +199,13 @@ no-two-holders cs =
       listed = λ lent. rw (n .state) (λ z. rw (listing-is H (n .inv) (n .sound) lent z) (alone H (n .inv) (n .sound)));
     }
 
+-- a call is numbered by the checks of the history's state
+refusals : (cs : List Call) (c : Call) → call (after cs) c .number ≡ firstOf (checks (stateOf (historyOf cs)) c)
+refusals cs c = let n = scheduled cs in ap (λ s. call s c .number) (n .state) ∙ own-pad (stateOf (historyOf cs)) (n .sound) c
+
 -- a list from the fresh schedule never meets 2
 never-broken : (cs : List Call) (c : Call) → call (after cs) c .number ≡ 2 → ⊥
-never-broken cs c z =
-    let n = scheduled cs in
-    not-two (stateOf (historyOf cs)) c (sym (own-pad (stateOf (historyOf cs)) (n .sound) c) ∙ ap (λ s. call s c .number) (sym (n .state)) ∙ z)
+never-broken cs c z = not-two (stateOf (historyOf cs)) c (sym (refusals cs c) ∙ z)
 
 joined-is : (cs : List Call) → joinedRows cs ≡ bytes (rowsOf (historyOf cs))
 unfolding rowsTo flat
@@ -213,9 +216,12 @@ as-scheduled cs =
     let n = scheduled cs in
     record {
       state = n .state;
+      starts = λ b m. refl;
       rows = joined-is cs;
+      ascending = rows-ascend (programsOf (historyOf cs .programs)) (timesOf (historyOf cs)) (n .inv .kept .ascending) (n .inv .kept .proper) (historyOf cs .last);
       listed = λ lent l. rw (n .state) (listed-is (historyOf cs) (n .inv) (n .sound) lent l);
       asked = λ c l. rw (n .state) (asked-is (historyOf cs) (n .inv) (n .sound) c l);
+      refusals = λ before rest c e. refusals before c;
       never-broken = λ before rest c e. never-broken before c;
       no-two-holders = λ before rest e. no-two-holders before;
     }

@@ -20,6 +20,11 @@ pub first-not : (n : ℕ) (b : Bool) (r : ℕ) → eqb n 0 ≡ false → eqb (co
 first-not n true r z e = both (eqb n 0) e z
 first-not n false r z e = (refl, e)
 
+-- a choice whose first test of three holds
+pub cond-first : {A : Type 0} (a b c : Bool) (x y : A) → a ≡ true → cond (a || b || c) x y ≡ x
+cond-first true b c x y e = refl
+cond-first false b c x y e = both false e refl
+
 -- a choice between two that are the same
 pub cond-same : {A : Type 0} (b : Bool) (x : A) → cond b x x ≡ x
 cond-same true x = refl

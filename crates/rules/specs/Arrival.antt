@@ -11,11 +11,13 @@ use Rattle.rules.specs.declared.Record.{Record}
 use Rattle.rules.specs.declared.Schedule.{Schedule}
 use Rattle.rules.specs.Lists.{over, In, Same, Pairwise}
 use Rattle.rules.specs.Records.{idOf, has, fresh, pad}
-use Rattle.rules.specs.Period.{drawnStart}
+use Rattle.rules.specs.Period.{drawnStart, periodOf}
+use Rattle.rules.specs.Rows.{Sooner}
 use Rattle.rules.specs.Bytes.{bytes}
-use Rattle.rules.specs.Calls.{Call, list, ask, Value, count, holder, Outcome, recordOf, defaultFor, bestDefault, counted, call, run, joined}
+use Rattle.rules.specs.Refusals.{firstOf}
+use Rattle.rules.specs.Calls.{Call, list, ask, Value, count, holder, Outcome, recordOf, defaultFor, bestDefault, checks, counted, call, run, joined}
 use Rattle.rules.specs.History.{Added, Brought, History, historyOf}
-use Rattle.rules.specs.Schedules.{Timed, programsOf, timesOf, seen, stateOf, rowsOf}
+use Rattle.rules.specs.Schedules.{Timed, timed, programsOf, timesOf, seen, stateOf, rowsOf}
 
 -- the schedule after a list of calls
 abbrev pub after : List Call → Schedule
@@ -121,12 +123,18 @@ pub record NoTwoHolders (cs : List Call) : Type 0 where
 pub record AsScheduled (cs : List Call) : Type 0 where
   -- the schedule by value after the list is that of its history
   pub state : after cs ≡ pad (stateOf (historyOf cs))
+  -- every event that was brought starts at the effective start that its receipt clock gives
+  pub starts : (b : Brought) → In b (historyOf cs .brought) → timed b .begins ≡ periodOf (b .event) (b .receipt) .start
   -- the joined rows are the schedule's rows for the moments from 1 to the last reading
   pub rows : joinedRows cs ≡ bytes (rowsOf (historyOf cs))
+  -- the schedule's rows go by time, then code in the order 3, 7, 2, then id
+  pub ascending : Pairwise Sooner (rowsOf (historyOf cs))
   -- every listing that is long enough gives the held events
   pub listed : (lent : List Record) → length (heldOf (historyOf cs)) ≤ length lent → Listed (historyOf cs) lent (call (after cs) (list lent))
   -- every question is answered by the holder or the default
   pub asked : (c : ℕ) → c < 32 → Asked (historyOf cs) c (call (after cs) (ask c))
+  -- the number of each call is the one that the rules give for the schedule of what was accepted before it
+  pub refusals : (before rest : List Call) (c : Call) → cs ≡ before ++ (c ∷ rest) → call (after before) c .number ≡ firstOf (checks (stateOf (historyOf before)) c)
   -- no call of it is refused with 2
   pub never-broken : (before rest : List Call) (c : Call) → cs ≡ before ++ (c ∷ rest) → call (after before) c .number ≡ 2 → ⊥
   -- after no call of it does a control have two holders

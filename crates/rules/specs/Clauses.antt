@@ -12,18 +12,20 @@ use Rattle.rules.specs.declared.Event.{Event}
 use Rattle.rules.specs.declared.Answer.{Answer}
 use Rattle.rules.specs.declared.Entry.{Entry}
 use Rattle.rules.specs.declared.Program.{Program}
+use Rattle.rules.specs.declared.Record.{Record}
 use Rattle.rules.specs.declared.Schedule.{Schedule}
-use Rattle.rules.specs.Lists.{In}
-use Rattle.rules.specs.Records.{State, idOf, has, fresh, view, pad}
+use Rattle.rules.specs.Lists.{In, All, Pairwise}
+use Rattle.rules.specs.Records.{State, idOf, has, lastClock, programAt, fresh, view, pad}
 use Rattle.rules.specs.Period.{effectiveEnd}
 use Rattle.rules.specs.Holding.{Rank, rankOf, better, heldAt, Holding, endOf}
-use Rattle.rules.specs.Rows.{Row, codeAt, rowsWith, rowsAt, ending, superseded, starting}
+use Rattle.rules.specs.Rows.{Row, codeAt, Sooner}
 use Rattle.rules.specs.Moments.{Moved, second, passed}
-use Rattle.rules.specs.Sound.{sound}
-use Rattle.rules.specs.Calls.{Call, deliver, setClock, code, count, numberOf, valueOf, lentBytes, lentList, call}
+use Rattle.rules.specs.Sound.{malformed, sound}
+use Rattle.rules.specs.Refusals.{late}
+use Rattle.rules.specs.Calls.{Call, deliver, cancel, setClock, list, code, count, numberOf, valueOf, Ranked, bestDefault, lentBytes, lentList, call}
 use Rattle.rules.specs.Image.{imageSize, image, loaded, imaged}
 use Rattle.rules.specs.Face.{Operation, asCall, idTooLong, shown, negative, lentAfter, FaceOutcome, face, faceFresh}
-use Rattle.rules.specs.Schedules.{Timed, goneBy, holding, seen}
+use Rattle.rules.specs.Schedules.{Timed, goneBy, holding, seen, rowsTo}
 
 -- the event holds the control at the moment
 abbrev pub Holds : List Program → List Timed → ℕ → ℕ → Timed → Type 0
@@ -77,10 +79,38 @@ pub record HoldingClauses (ps : List Program) (ts : List Timed) : Type 0 where
   -- at most one holder of a control at a moment
   pub one-holder : (t c : ℕ) (x y : Timed) → In x ts → In y ts → (idOf (x .event) ≡ idOf (y .event) → ⊥) → Holds ps ts t c x → Holds ps ts t c y → ⊥
 
+-- the event holds some control at the moment
+abbrev pub HoldsAny : List Program → List Timed → ℕ → Timed → Type 0
+HoldsAny ps ts t x = (c : ℕ) × Holds ps ts t c x
+
+-- Response rows, code: what the event gives at moment suc t, 0 for nothing
+abbrev pub codeGiven : List Program → List Timed → ℕ → Timed → ℕ
+codeGiven ps ts t x = codeAt (suc t) (seen ps ts t x) (holding ps ts (suc t) x)
+
+-- Response rows, row: with the code that the event gives at moment suc t
+abbrev pub rowGiven : List Program → List Timed → ℕ → Timed → Row
+rowGiven ps ts t x = record { time = suc t; id = idOf (x .event); code = codeGiven ps ts t x }
+
+-- Response rows, of a history's events
+pub record RowClauses (ps : List Program) (ts : List Timed) : Type 0 where
+  -- an event not cancelled before the moment gives 2 at its start if it holds any control then
+  pub at-start : (t : ℕ) (x : Timed) → codeGiven ps ts t x ≡ 2 ↔ ((x .begins ≡ suc t) × Standing (suc t) x × HoldsAny ps ts (suc t) x)
+  -- 3 at its end if it held any until then
+  pub at-end : (t : ℕ) (x : Timed) → codeGiven ps ts t x ≡ 3 ↔ ((ends x ≡ suc t) × Standing (suc t) x × HoldsAny ps ts t x)
+  -- 7 at its start if it holds none, or when a better one takes its last control
+  pub superseded : (t : ℕ) (x : Timed)
+      → codeGiven ps ts t x ≡ 7 ↔ ((suc t < ends x) × Standing (suc t) x × (HoldsAny ps ts (suc t) x → ⊥) × ((x .begins ≡ suc t) ⊎ HoldsAny ps ts t x))
+  -- a better one takes it: each control that it held a second before, a better event holds then
+  pub taken : (t c : ℕ) (x : Timed) → codeGiven ps ts t x ≡ 7 → Holds ps ts t c x → (o : Timed) × In o ts × Better ps o x × Holds ps ts (suc t) c o
+  -- it gives no other code
+  pub only : (t : ℕ) (x : Timed) → (codeGiven ps ts t x ≡ 0) ⊎ ((codeGiven ps ts t x ≡ 2) ⊎ ((codeGiven ps ts t x ≡ 3) ⊎ (codeGiven ps ts t x ≡ 7)))
+  -- the rows of the moments from 1 to u are what the events give in them, and nothing else
+  pub rows : (u : ℕ) (r : Row) → In r (rowsTo ps ts u) ↔ ((t : ℕ) × (x : Timed) × (t < u) × In x ts × (codeGiven ps ts t x ≡ 0 → ⊥) × (r ≡ rowGiven ps ts t x))
+
 -- Response rows: how many an event has given up to moment t
 unfoldable pub given : List Program → List Timed → ℕ → Timed → ℕ
 given ps ts zero x = 0
-given ps ts (suc t) x = given ps ts t x + cond (eqb (codeAt (suc t) (seen ps ts t x) (holding ps ts (suc t) x)) 0) 0 1
+given ps ts (suc t) x = given ps ts t x + cond (eqb (codeGiven ps ts t x) 0) 0 1
 
 -- whether an entry begins or ends at moment t
 unfoldable pub busy : ℕ → List Entry → Bool
@@ -96,11 +126,26 @@ pub record MomentClauses : Type 0 where
   pub silent : (t : ℕ) (h : Entry) (now : Holding) → h .cancelled ≡ true → codeAt t h now ≡ 0
   -- an event gives at most two rows in its life
   pub two-rows : (ps : List Program) (ts : List Timed) (t : ℕ) (x : Timed) → given ps ts t x ≤ 2
+  -- the rows of a clock call go by time, then code in the order 3, 7, 2, then id
+  pub in-order : (s : Schedule) → sound s ≡ true → (reading : ℕ) → Pairwise Sooner (passed (view s) reading .rows)
   -- a clock call gives at most two for each held event, so at most 96
   pub few-rows : (s : Schedule) → sound s ≡ true → (reading : ℕ) → length (passed (view s) reading .rows) ≤ 96
   -- where nothing begins or ends, a second changes the clock alone
   pub quiet : (s : Schedule) → sound s ≡ true → busy (suc (s .clock)) (view s .entries) ≡ false
       → second (view s) ≡ record { state = record { clock = suc (s .clock); programs = s .programs; entries = view s .entries }; rows = [] }
+
+-- Numbers given: none before 10 applies to the delivery
+pub record Fit (s : State) (e : Event) : Type 0 where
+  -- not 3: its program number is not above 7
+  pub program : e .program ≤ 7
+  -- not 6: its program was added
+  pub added : programAt (s .programs) (e .program) .added ≡ true
+  -- not 7: nothing in it is out of range
+  pub well-formed : malformed e ≡ false
+  -- not 8: its id is not held
+  pub new : All (λ h. idOf (h .event) ≡ idOf e → ⊥) (s .entries)
+  -- not 9: it does not come too late
+  pub in-time : late (s .clock) e ≡ false
 
 -- Calls and Numbers given
 pub record CallClauses : Type 0 where
@@ -115,13 +160,41 @@ pub record CallClauses : Type 0 where
   -- an event with another field under a held id, a fresh draw too, is never accepted
   pub redrawn : (s : Schedule) (h : Entry) (e : Event) → sound s ≡ true → In h (view s .entries) → idOf (h .event) ≡ idOf e → (h .event ≡ e → ⊥)
       → call s (deliver e) .number ≡ 0 → ⊥
-  -- 10 is given at 48 held events and not before
-  pub full : (s : Schedule) (e : Event) → sound s ≡ true → call s (deliver e) .number ≡ 10 → length (view s .entries) ≡ 48
-  -- 13 is given for a buffer that is shorter than the rows, and not for one that they fit
-  pub too-short : (s : Schedule) (t : ℕ) (b : List ℕ) → sound s ≡ true → call s (setClock t b) .number ≡ 13 → length b < 17 * length (passed (view s) t .rows)
+  -- a cancellation of a held event gives code 6, or 0 if it was cancelled before
+  pub cancelled : (s : Schedule) (h : Entry) → sound s ≡ true → In h (view s .entries)
+      → (call s (cancel (idOf (h .event))) .number ≡ 0) × (call s (cancel (idOf (h .event))) .value ≡ cond (h .cancelled) (code 0) (code 6))
+  -- after an accepted cancellation the same one again gives code 0
+  pub cancelled-again : (s : Schedule) (i : ℕ) → sound s ≡ true → call s (cancel i) .number ≡ 0
+      → (call (call s (cancel i) .state) (cancel i) .number ≡ 0) × (call (call s (cancel i) .state) (cancel i) .value ≡ code 0)
+  -- 10 is given at 48 held events and not before, to an event to which no number before 10 applies
+  pub full : (s : Schedule) (e : Event) → sound s ≡ true → call s (deliver e) .number ≡ 10 ↔ ((length (view s .entries) ≡ 48) × Fit (view s) e)
+  -- 13 is given for a buffer that is shorter than the rows, and not for one that they fit; a reading that 12 refuses gets 12
+  pub too-short : (s : Schedule) (t : ℕ) (b : List ℕ) → sound s ≡ true
+      → call s (setClock t b) .number ≡ 13 ↔ ((s .clock ≤ t) × (t ≤ lastClock) × (length b < 17 * length (passed (view s) t .rows)))
+  -- 13 is given for a list that is shorter than the held events, and not for one that they fit
+  pub short-list : (s : Schedule) (r : List Record) → sound s ≡ true → call s (list r) .number ≡ 13 ↔ (length r < length (view s .entries))
   -- the same reading is accepted, whatever the buffer, and writes nothing
   pub same-reading : (s : Schedule) (b : List ℕ) → sound s ≡ true
       → call s (setClock (s .clock) b) ≡ record { number = 0; value = count 0; state = s; bytes = b; records = [] }
+
+-- the program under the number was added, and its defaults carry the control
+abbrev pub Offers : List Program → ℕ → ℕ → Type 0
+Offers ps c n = (n < length ps) × (programAt ps n .added ≡ true) × (has (programAt ps n .defaults) c ≡ true)
+
+-- Calls, ask for a control: the program is the one whose default holds where no event does
+pub record BestOffer (ps : List Program) (c : ℕ) (r : Ranked) : Type 0 where
+  -- its defaults carry the control
+  pub offers : Offers ps c (r .number)
+  pub primacy : programAt ps (r .number) .primacy ≡ r .primacy
+  -- the best primacy of those that do; ties: smaller number
+  pub best : (n : ℕ) → Offers ps c n → (r .primacy < programAt ps n .primacy) ⊎ ((r .primacy ≡ programAt ps n .primacy) × (r .number ≤ n))
+
+-- Calls, ask for a control: the default
+pub record DefaultClause : Type 0 where
+  -- else the program with the best primacy whose defaults carry it (ties: smaller number)
+  pub best : (ps : List Program) (c : ℕ) (r : Ranked) → bestDefault c 0 ps ≡ some r ↔ BestOffer ps c r
+  -- else none
+  pub nobody : (ps : List Program) (c : ℕ) → bestDefault c 0 ps ≡ none ↔ ((n : ℕ) → Offers ps c n → ⊥)
 
 -- Form by location, answers that are enums: their numbers and values tell them apart
 pub record AnswerClause : Type 0 where
@@ -155,8 +228,10 @@ pub record ImageKept (s : Schedule) : Type 0 where
 pub record Clauses : Type 0 where
   pub rank : RankClauses
   pub holding : (ps : List Program) (ts : List Timed) → HoldingClauses ps ts
+  pub rows : (ps : List Program) (ts : List Timed) → RowClauses ps ts
   pub moments : MomentClauses
   pub calls : CallClauses
+  pub defaults : DefaultClause
   pub answers : AnswerClause
   pub face : FaceClauses
   pub sound : SoundClause

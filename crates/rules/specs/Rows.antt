@@ -1,5 +1,7 @@
 -- Response rows.
-use Prim.Native.Nat.{ℕ}
+use mathlib.Core.Path.{_≡_}
+use mathlib.Core.Logic.{_⊎_}
+use Prim.Native.Nat.{ℕ, _<_}
 use mathlib.Core.Bool.{Bool, cond, not, _||_}
 use mathlib.Core.List.{List, [], _∷_, _++_, map}
 use lib.Dec.{ltb, eqb}
@@ -43,6 +45,16 @@ starting code = eqb code 2
 -- Response rows, order within a moment: ends, then superseded ones, then starts, each by ascending id
 unfoldable pub rowsFrom : ℕ → (Entry → Holding) → List Entry → List Row
 rowsFrom t now hs = rowsWith t now hs ending ++ (rowsWith t now hs superseded ++ rowsWith t now hs starting)
+
+-- Response rows, order of the codes: 3, 7, 2; no row has another
+abbrev pub turn : ℕ → ℕ
+turn code = cond (eqb code 3) 0 (cond (eqb code 7) 1 (cond (eqb code 2) 2 3))
+
+-- Response rows, order: by time, then code in the order 3, 7, 2, then id
+abbrev pub Sooner : Row → Row → Type 0
+Sooner a b =
+    (a .time < b .time)
+    ⊎ ((a .time ≡ b .time) × ((turn (a .code) < turn (b .code)) ⊎ ((turn (a .code) ≡ turn (b .code)) × (a .id < b .id))))
 
 -- the rows of moment t
 unfoldable pub rowsAt : List Program → ℕ → List Entry → List Row

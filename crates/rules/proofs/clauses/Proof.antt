@@ -1,12 +1,15 @@
 -- The promise is the theorem: the clauses, each by its law.
 use Rattle.rules.proofs.Ranks.{better-self, better-trans, better-one}
 use Rattle.rules.proofs.Interval.{holding-clauses}
+use Rattle.rules.proofs.RowLaws.{row-clauses}
 use Rattle.rules.proofs.Claims.{code-cancelled}
 use Rattle.rules.proofs.Nobody.{blocks-nobody}
 use Rattle.rules.proofs.Bound.{two-rows, few-rows}
+use Rattle.rules.proofs.RowOrder.{in-order}
 use Rattle.rules.proofs.SoundState.{sound-view}
 use Rattle.rules.proofs.SoundKept.{sound-call}
 use Rattle.rules.proofs.CallLaws.{call-clauses}
+use Rattle.rules.proofs.Defaults.{default-clause}
 use Rattle.rules.proofs.FaceLaws.{answer-clause, face-clauses}
 use Rattle.rules.proofs.Jump.{quiet-second}
 use Rattle.rules.specs.Records.{view}
@@ -17,8 +20,10 @@ returns : tie.Need-returns
 returns c = record {
   rank = record { strict = better-self; transitive = better-trans; total = better-one };
   holding = holding-clauses;
-  moments = record { blocks-nobody = blocks-nobody; silent = code-cancelled; two-rows = two-rows; few-rows = few-rows; quiet = λ s e. quiet-second (view s) (sound-view s e) };
+  rows = row-clauses;
+  moments = record { blocks-nobody = blocks-nobody; silent = code-cancelled; two-rows = two-rows; in-order = in-order; few-rows = few-rows; quiet = λ s e. quiet-second (view s) (sound-view s e) };
   calls = call-clauses;
+  defaults = default-clause;
   answers = answer-clause;
   face = face-clauses;
   sound = record { kept = sound-call };
