@@ -59,6 +59,11 @@ module _ (l : List ℕ) (op : Operation) (lent : List ℕ) where
   unfolding face
   same e z f = rw (e, z, f)
 
+  too-short : imaged l ≡ true → call (loaded l) (asCall op lent) .number ≡ 0 → idTooLong op (call (loaded l) (asCall op lent) .value) (length lent) ≡ true
+      → face l op lent ≡ record { returned = negative 13; image = l; lent = lent }
+  unfolding face
+  too-short e z f = rw (e, z, f)
+
 -- The fresh image.
 
 fresh-kept : ImageKept (pad fresh)
@@ -69,4 +74,4 @@ unfolding faceFresh
 fresh-face l n = rw (eq-eqb (length l) imageSize n) (fresh-kept .accepted, fresh-kept .back)
 
 pub face-clauses : FaceClauses
-face-clauses = record { broken = broken; unchanged = unchanged; same = same; fresh = fresh-face }
+face-clauses = record { broken = broken; unchanged = unchanged; same = same; too-short = too-short; fresh = fresh-face }

@@ -35,6 +35,7 @@ pub mod Cancelled
 pub mod CallLaws
 pub mod Defaults
 pub mod FaceLaws
+pub mod Room
 pub mod RowBytes
 pub mod Scheduled
 pub mod OneHolder

@@ -17,11 +17,11 @@ use Rattle.rules.specs.Printed.{linesOf, decimal, rowsText, output}
 use Rattle.rules.specs.LineTable.{lineTable, linesHold}
 use Rattle.rules.specs.TextTable.{textInput, textOutput}
 use Rattle.rules.specs.Script.{scriptsHold}
-use Rattle.rules.specs.CallTable.{callTable}
+use Rattle.rules.specs.CallTable.{callTable, answersHold, CallTables}
 use Rattle.rules.specs.Schedules.{holding, rowsTo, heldEvents}
 use Rattle.rules.specs.ScheduleTable.{schedulesHold, scheduleTable}
 use Rattle.rules.specs.MomentTable.{momentsHold, momentTable}
-use Rattle.rules.specs.Marks.{same, replies}
+use Rattle.rules.specs.Marks.{same}
 use Rattle.rules.proofs.SoundKept.{sound-fresh}
 use Rattle.rules.proofs.Jump.{jumps, nextMoment, idleFor}
 use Rattle.rules.proofs.Quick.{quickChecks, quickDoes, quickCall, quickReplies, quick-replies, quickTellFrame, quickTellAll, quick-tell}
@@ -35,8 +35,12 @@ calls-evaluate : scriptsHold (quickReplies fresh) callTable ≡ true
 unfolding scriptsHold callTable quickReplies quickCall quickChecks quickDoes jumps nextMoment idleFor advance second entriesFrom rowsAt rowsFrom rowsWith codeAt holdingAt heldAt taken claim better key drawnStart effectiveEnd effectiveStart usable has cut join big flat rowBytes outOfRange malformed sameEvent find late programChecks eventChecks cancelChecks clockChecks askChecks listChecks bestDefault holderIn answerFor does checks
 calls-evaluate = refl
 
-pub calls-answered : scriptsHold (replies (pad fresh)) callTable ≡ true
-calls-answered = ap (λ see. scriptsHold see callTable) (sym (fun-ext (quick-replies fresh sound-fresh))) ∙ calls-evaluate
+answers-evaluate : answersHold ≡ true
+unfolding answersHold
+answers-evaluate = refl
+
+pub call-tables : CallTables
+call-tables = record { scripts = ap (λ see. scriptsHold see callTable) (sym (fun-ext (quick-replies fresh sound-fresh))) ∙ calls-evaluate; numbers = answers-evaluate }
 
 texts-evaluate : same (quickTellAll fresh (linesOf textInput)) textOutput ≡ true
 unfolding linesOf decimal rowsText digit paired unhex isFrame frameOf lineOf read eventAt textInput textOutput quickTellAll quickTellFrame quickCall quickChecks quickDoes jumps nextMoment idleFor advance second entriesFrom rowsAt rowsFrom rowsWith codeAt holdingAt heldAt taken claim better key drawnStart effectiveEnd effectiveStart usable has cut join big flat rowBytes outOfRange malformed sameEvent find late programChecks eventChecks cancelChecks clockChecks askChecks listChecks bestDefault holderIn answerFor does checks

@@ -1,12 +1,17 @@
--- What calls answer: codes, holders, defaults, rows, listings, cancellations. Each script starts from the fresh schedule.
+-- What calls answer: number and value of each answer, codes, holders, defaults, rows, listings, cancellations. Each script starts from the fresh schedule.
+use mathlib.Core.Path.{_≡_}
 use Prim.Native.Nat.{ℕ}
-use mathlib.Core.Bool.{Bool, true, false}
+use mathlib.Core.Bool.{Bool, true, false, _&&_}
 use mathlib.Core.List.{List, [], _∷_, _++_}
 use lib.ListN.{replicate}
 use Rattle.rules.specs.declared.Event.{Event}
 use Rattle.rules.specs.declared.Record.{Record}
-use Rattle.rules.specs.Calls.{Call, addProgram, deliver, cancel, setClock, ask, list, code, count, holder, default, nobody}
-use Rattle.rules.specs.Script.{Step, _answers_, _refused_}
+use Rattle.rules.specs.declared.Answer.{Answer}
+use Rattle.rules.specs.declared.Answer.the-variants.{Refused, Code, Count, Holder, Default, Nobody}
+use Rattle.rules.specs.Records.{fresh, pad}
+use Rattle.rules.specs.Calls.{Call, addProgram, deliver, cancel, setClock, ask, list, nothing, code, count, holder, default, nobody, numberOf, valueOf}
+use Rattle.rules.specs.Script.{valueNumbers, Step, scriptsHold, _answers_, _refused_}
+use Rattle.rules.specs.Marks.{same, replies}
 
 -- id, program, controls, creation time, start, duration; nothing drawn
 abbrev event : ℕ → ℕ → ℕ → ℕ → ℕ → ℕ → Event
@@ -155,7 +160,7 @@ cancelled =
     ∷ reads 5200 17 1 (row 0x13 0xED 7 3) 0
     ∷ []
 
--- an event first accepted after its start begins at the next second and ends as it would have
+-- an event first accepted after its start begins at the next second; cancelled, it is listed as it was but for its mask and its mark
 abbrev late : List Step
 late =
     (addProgram 0 0 0 answers code 0)
@@ -165,8 +170,28 @@ late =
     ∷ (ask 0 answers nobody)
     ∷ reads 5051 17 1 (row 0x13 0xBB 3 2) 0
     ∷ (ask 0 answers holder 3)
-    ∷ reads 5100 17 1 (row 0x13 0xEC 3 3) 0
+    ∷ (cancel 3 answers code 6)
+    ∷ lists 1 1 (held (event 3 0 1 0 5000 100) 5051 0 true ∷ []) 0
+    ∷ reads 5100 0 0 [] 0
     ∷ []
 
 unfoldable pub callTable : List (List Step)
 callTable = codes ∷ holders ∷ defaults ∷ moment ∷ cancelled ∷ late ∷ []
+
+-- the number and the value of each answer
+abbrev answerNumbers : Answer → List ℕ
+answerNumbers a = numberOf a ∷ valueNumbers (valueOf a)
+
+unfoldable pub answersHold : Bool
+answersHold =
+    same (answerNumbers (Refused 13)) (13 ∷ valueNumbers nothing)
+    && same (answerNumbers (Code 6)) (0 ∷ valueNumbers (code 6))
+    && same (answerNumbers (Count 96)) (0 ∷ valueNumbers (count 96))
+    && same (answerNumbers (Holder (record { value = 9 }))) (0 ∷ valueNumbers (holder 9))
+    && same (answerNumbers (Default 7)) (0 ∷ valueNumbers (default 7))
+    && same (answerNumbers Nobody) (0 ∷ valueNumbers nobody)
+
+pub record CallTables : Type 0 where
+  -- each script, from the fresh schedule
+  pub scripts : scriptsHold (replies (pad fresh)) callTable ≡ true
+  pub numbers : answersHold ≡ true

@@ -25,6 +25,7 @@ use Rattle.rules.specs.Refusals.{late}
 use Rattle.rules.specs.Calls.{Call, deliver, cancel, setClock, list, code, count, numberOf, valueOf, Ranked, bestDefault, lentBytes, lentList, call}
 use Rattle.rules.specs.Image.{imageSize, image, loaded, imaged}
 use Rattle.rules.specs.Face.{Operation, asCall, idTooLong, shown, negative, lentAfter, FaceOutcome, face, faceFresh}
+use Rattle.rules.specs.Printed.{room}
 use Rattle.rules.specs.Schedules.{Timed, goneBy, holding, seen, rowsTo}
 
 -- the event holds the control at the moment
@@ -211,8 +212,17 @@ pub record FaceClauses : Type 0 where
   pub same : (l : List ℕ) (op : Operation) (lent : List ℕ) → imaged l ≡ true → call (loaded l) (asCall op lent) .number ≡ 0
       → idTooLong op (call (loaded l) (asCall op lent) .value) (length lent) ≡ false
       → face l op lent ≡ record { returned = shown (call (loaded l) (asCall op lent) .value); image = image (call (loaded l) (asCall op lent) .state); lent = lentAfter op (call (loaded l) (asCall op lent)) lent }
+  -- a question whose holder's id does not fit is refused with 13, and no byte changes
+  pub too-short : (l : List ℕ) (op : Operation) (lent : List ℕ) → imaged l ≡ true → call (loaded l) (asCall op lent) .number ≡ 0
+      → idTooLong op (call (loaded l) (asCall op lent) .value) (length lent) ≡ true
+      → face l op lent ≡ record { returned = negative 13; image = l; lent = lent }
   -- the fresh image is accepted, and is that of the fresh schedule
   pub fresh : (l : List ℕ) → length l ≡ imageSize → (imaged (faceFresh l .image) ≡ true) × (loaded (faceFresh l .image) ≡ pad fresh)
+
+-- Frames and image, the program
+pub record ProgramClause : Type 0 where
+  -- the buffer that it lends fits the rows of every reading, so that 13 is never printed
+  pub room-fits : (s : Schedule) (t : ℕ) → sound s ≡ true → call s (setClock t room) .number ≡ 13 → ⊥
 
 -- Frames and image: the rules are kept by every call
 pub record SoundClause : Type 0 where
@@ -234,4 +244,5 @@ pub record Clauses : Type 0 where
   pub defaults : DefaultClause
   pub answers : AnswerClause
   pub face : FaceClauses
+  pub program : ProgramClause
   pub sound : SoundClause

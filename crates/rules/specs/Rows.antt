@@ -48,7 +48,7 @@ rowsFrom t now hs = rowsWith t now hs ending ++ (rowsWith t now hs superseded ++
 
 -- Response rows, order of the codes: 3, 7, 2; no row has another
 abbrev pub turn : ℕ → ℕ
-turn code = cond (eqb code 3) 0 (cond (eqb code 7) 1 (cond (eqb code 2) 2 3))
+turn code = cond (eqb code 3) 0 (cond (eqb code 7) 1 2)
 
 -- Response rows, order: by time, then code in the order 3, 7, 2, then id
 abbrev pub Sooner : Row → Row → Type 0

@@ -52,7 +52,7 @@ room = replicate 136 7
 
 unfoldable pub plainly : List Call
 plainly =
-    addProgram 0 1 1 ∷ addProgram 1 2 0 ∷ deliver one ∷ deliver two ∷ deliver four ∷ deliver five ∷ setClock 12 room ∷ cancel 1 ∷ setClock 33 room ∷ deliver three ∷ setClock 42 room ∷ []
+    addProgram 0 1 1 ∷ addProgram 1 2 0 ∷ deliver one ∷ deliver two ∷ deliver four ∷ deliver five ∷ setClock 12 room ∷ cancel 1 ∷ setClock 11 room ∷ setClock 33 room ∷ deliver three ∷ setClock 42 room ∷ []
 
 -- programs and events in another order, each event at the last clock that is in time, an id that is not held, repeats of a program, of events and of a cancellation, short
 -- buffers and lists
@@ -112,7 +112,7 @@ pub record Sample : Type 0 where
   -- they meet the premise
   pub premise : SameArrivals (historyOf plainly) (historyOf otherwise)
   -- they differ
-  pub lengths : (length plainly ≡ 11) × (length otherwise ≡ 24)
+  pub lengths : (length plainly ≡ 12) × (length otherwise ≡ 24)
   -- and these are the joined rows of both
   pub rows : joinedRows plainly ≡ bytes (row 10 1 2 ∷ row 12 5 2 ∷ row 15 5 7 ∷ row 15 2 2 ∷ row 16 4 2 ∷ row 20 2 3 ∷ row 30 4 3 ∷ row 40 1 2 ∷ [])
   pub results : SameResults plainly otherwise

@@ -15,8 +15,7 @@ ghost use Rattle.rules.specs.Edges.{edges};
 ghost use Rattle.rules.specs.Example.{exampleInput, exampleOutput};
 ghost use Rattle.rules.specs.LineTable.{linesHold, lineTable};
 ghost use Rattle.rules.specs.TextTable.{textInput, textOutput};
-ghost use Rattle.rules.specs.Script.{scriptsHold};
-ghost use Rattle.rules.specs.CallTable.{callTable};
+ghost use Rattle.rules.specs.CallTable.{CallTables};
 ghost use Rattle.rules.specs.ImageTable.{ImageTables};
 ghost use Rattle.rules.specs.FaceTable.{FaceTables};
 ghost use Rattle.rules.specs.History.{historyOf};
@@ -193,7 +192,7 @@ pub fn worked_example()
 
 // Calls: what each answers and leaves in what is lent to it, call after call.
 pub fn calls_answered()
-    ensures { λ _. ⌜ scriptsHold (replies (pad fresh)) callTable ≡ true ⌝ }
+    ensures { λ _. ⌜ CallTables ⌝ }
 {}
 
 // Call lists: what a list brings.

@@ -11,6 +11,7 @@ use Rattle.rules.proofs.SoundKept.{sound-call}
 use Rattle.rules.proofs.CallLaws.{call-clauses}
 use Rattle.rules.proofs.Defaults.{default-clause}
 use Rattle.rules.proofs.FaceLaws.{answer-clause, face-clauses}
+use Rattle.rules.proofs.Room.{program-clause}
 use Rattle.rules.proofs.Jump.{quiet-second}
 use Rattle.rules.specs.Records.{view}
 use Rattle.rules.proofs.clauses.Statement.{statement}
@@ -26,6 +27,7 @@ returns c = record {
   defaults = default-clause;
   answers = answer-clause;
   face = face-clauses;
+  program = program-clause;
   sound = record { kept = sound-call };
 }
 
