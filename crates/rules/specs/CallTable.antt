@@ -1,6 +1,6 @@
 -- What calls answer: number and value of each answer, codes, holders, defaults, rows, listings, cancellations. Each script starts from the fresh schedule.
 use mathlib.Core.Path.{_≡_}
-use Prim.Native.Nat.{ℕ}
+use Prim.Native.Nat.{ℕ, _/_, _%_}
 use mathlib.Core.Bool.{Bool, true, false, _&&_}
 use mathlib.Core.List.{List, [], _∷_, _++_}
 use lib.ListN.{replicate}
@@ -29,9 +29,9 @@ event i program controls created start duration =
       «duration_draw» = 0;
     }
 
--- a row's bytes, its time, id and code below 2 ^ 16, 2 ^ 8 and 2 ^ 8
-abbrev row : ℕ → ℕ → ℕ → ℕ → List ℕ
-row t1 t0 i k = 0 ∷ 0 ∷ 0 ∷ 0 ∷ 0 ∷ 0 ∷ t1 ∷ t0 ∷ 0 ∷ 0 ∷ 0 ∷ 0 ∷ 0 ∷ 0 ∷ 0 ∷ i ∷ k ∷ []
+-- a row's bytes, of a time below 65,536 and an id below 256
+abbrev row : ℕ → ℕ → ℕ → List ℕ
+row t i k = 0 ∷ 0 ∷ 0 ∷ 0 ∷ 0 ∷ 0 ∷ t / 256 ∷ t % 256 ∷ 0 ∷ 0 ∷ 0 ∷ 0 ∷ 0 ∷ 0 ∷ 0 ∷ i ∷ k ∷ []
 
 -- a reading into a buffer of `room` bytes, all 77: how many rows, their bytes, and how many bytes stay as they were
 abbrev reads : ℕ → ℕ → ℕ → List ℕ → ℕ → Step
@@ -70,7 +70,7 @@ codes =
     ∷ (deliver narrow answers code 1)
     ∷ reads 5000 0 0 [] 0
     ∷ (cancel 2 answers code 0)
-    ∷ reads 5050 18 1 (row 0x13 0xBA 1 2) 1
+    ∷ reads 5050 18 1 (row 5050 1 2) 1
     ∷ lists 3 2 (held narrow 5050 1 false ∷ held wide 5000 0 true ∷ []) 1
     ∷ (cancel 1 answers code 6)
     ∷ lists 2 2 (held narrow 5050 0 true ∷ held wide 5000 0 true ∷ []) 0
@@ -90,16 +90,16 @@ holders =
     ∷ (ask 0 answers default 1)
     ∷ (ask 1 answers nobody)
     ∷ (ask 2 answers default 1)
-    ∷ reads 5049 17 1 (row 0x13 0x88 2 2) 0
+    ∷ reads 5049 17 1 (row 5000 2 2) 0
     ∷ (ask 0 answers holder 2)
     ∷ (ask 1 answers holder 2)
     ∷ lists 4 2 (held narrow 5050 0 false ∷ held wide 5000 3 false ∷ []) 2
-    ∷ reads 5050 20 1 (row 0x13 0xBA 1 2) 3
+    ∷ reads 5050 20 1 (row 5050 1 2) 3
     ∷ (ask 0 answers holder 1)
     ∷ (ask 1 answers holder 2)
     ∷ lists 2 2 (held narrow 5050 1 false ∷ held wide 5000 2 false ∷ []) 0
     ∷ (setClock 5150 (replicate 33 77) refused 13)
-    ∷ reads 5150 34 2 (row 0x13 0xEC 2 3 ++ row 0x14 0x1E 1 3) 0
+    ∷ reads 5150 34 2 (row 5100 2 3 ++ row 5150 1 3) 0
     ∷ (ask 0 answers default 1)
     ∷ lists 1 0 [] 1
     ∷ []
@@ -136,11 +136,9 @@ moment =
     ∷ (deliver (event 20 1 8 0 5000 200) answers code 1)
     ∷ (deliver (event 50 0 4 0 5100 200) answers code 1)
     ∷ (deliver (event 5 0 8 0 5100 200) answers code 1)
-    ∷ reads 5099 68 4 (row 0x13 0x88 10 2 ++ (row 0x13 0x88 20 2 ++ (row 0x13 0x88 30 2 ++ row 0x13 0x88 40 2))) 0
-    ∷ reads 5100 103 6 (
-    row 0x13 0xEC 10 3 ++ (row 0x13 0xEC 30 3 ++ (row 0x13 0xEC 20 7 ++ (row 0x13 0xEC 40 7 ++ (row 0x13 0xEC 5 2 ++ row 0x13 0xEC 50 2))))
-    ) 1
-    ∷ reads 9000000000 34 2 (row 0x14 0xB4 5 3 ++ row 0x14 0xB4 50 3) 0
+    ∷ reads 5099 68 4 (row 5000 10 2 ++ (row 5000 20 2 ++ (row 5000 30 2 ++ row 5000 40 2))) 0
+    ∷ reads 5100 103 6 (row 5100 10 3 ++ (row 5100 30 3 ++ (row 5100 20 7 ++ (row 5100 40 7 ++ (row 5100 5 2 ++ row 5100 50 2))))) 1
+    ∷ reads 9000000000 34 2 (row 5300 5 3 ++ row 5300 50 3) 0
     ∷ []
 
 -- a cancellation at 5000: the event holds that second, gives its 2 and nothing after; a worse event is kept out that second for good, one that starts a second later is not
@@ -150,14 +148,14 @@ cancelled =
     ∷ (deliver (event 9 0 1 0 5000 100) answers code 1)
     ∷ (deliver (event 8 0 1 0 5000 100) answers code 1)
     ∷ (deliver (event 7 0 1 0 5001 100) answers code 1)
-    ∷ reads 5000 34 2 (row 0x13 0x88 8 7 ++ row 0x13 0x88 9 2) 0
+    ∷ reads 5000 34 2 (row 5000 8 7 ++ row 5000 9 2) 0
     ∷ (ask 0 answers holder 9)
     ∷ (cancel 9 answers code 6)
     ∷ (ask 0 answers default 0)
-    ∷ reads 5001 17 1 (row 0x13 0x89 7 2) 0
+    ∷ reads 5001 17 1 (row 5001 7 2) 0
     ∷ (ask 0 answers holder 7)
     ∷ lists 3 3 (held (event 7 0 1 0 5001 100) 5001 1 false ∷ held (event 8 0 1 0 5000 100) 5000 0 false ∷ held (event 9 0 1 0 5000 100) 5000 0 true ∷ []) 0
-    ∷ reads 5200 17 1 (row 0x13 0xED 7 3) 0
+    ∷ reads 5200 17 1 (row 5101 7 3) 0
     ∷ []
 
 -- an event first accepted after its start begins at the next second; cancelled, it is listed as it was but for its mask and its mark
@@ -168,7 +166,7 @@ late =
     ∷ (deliver (event 3 0 1 0 5000 100) answers code 1)
     ∷ lists 1 1 (held (event 3 0 1 0 5000 100) 5051 0 false ∷ []) 0
     ∷ (ask 0 answers nobody)
-    ∷ reads 5051 17 1 (row 0x13 0xBB 3 2) 0
+    ∷ reads 5051 17 1 (row 5051 3 2) 0
     ∷ (ask 0 answers holder 3)
     ∷ (cancel 3 answers code 6)
     ∷ lists 1 1 (held (event 3 0 1 0 5000 100) 5051 0 true ∷ []) 0
