@@ -92,6 +92,21 @@ pub ended-step : (s : Schedule) (t out : List ℕ)
     → tellAll s (endedOf t) ≡ wrote (runOutcome s t out) ++ tellAll (runOutcome s t out .state) (endedOf (drop (runOutcome s t out .read) t))
 ended-step = run-step endedOf (λ t l ls e. e ∙ ap (λ r. l ∷ r) (sym (first-line t l ls e .rest)))
 
+-- with room for all texts and one more, no line is left for want of room
+runs-all : (ls : List (List ℕ)) (room : ℕ) (s : Schedule) → length (tellAll s ls) + mostText ≤ room → runs room s ls ≡ record { state = afterLines s ls; read = total ls; text = tellAll s ls }
+unfolding runs tellAll afterLines total
+runs-all [] room s h = refl
+runs-all (l ∷ ls) room s h =
+    let o = tell s l in
+    let size = length-append (o .text) (tellAll (o .state) ls) in
+    rw (le-leb mostText room (omega arith), runs-all ls (room - length (o .text)) (o .state) (omega arith))
+
+-- behind all lines that have ended there is none
+none-behind : (ls : List (List ℕ)) (t : List ℕ) → endedOf t ≡ ls → endedOf (drop (total ls) t) ≡ []
+unfolding total
+none-behind [] t e = e
+none-behind (l ∷ ls) t e = rw (← drop-drop (total ls) (suc (length l)) t) (none-behind ls (drop (suc (length l)) t) (first-line t l ls e .rest))
+
 module _ (s : Schedule) (e : sound s ≡ true) (t out : List ℕ) where
   pub accepted : (runOutcome s t out .number ≡ 0) × (sound (runOutcome s t out .state) ≡ true)
   unfolding runOutcome
@@ -100,6 +115,12 @@ module _ (s : Schedule) (e : sound s ≡ true) (t out : List ℕ) where
   pub moves : mostText ≤ length out → runOutcome s t out .read ≡ 0 → endedOf t ≡ []
   unfolding runOutcome
   moves h z = runs-some (length out) s h (endedOf t) (rw e at z)
+
+  pub takes-all : length (tellAll s (endedOf t)) + mostText ≤ length out → (wrote (runOutcome s t out) ≡ tellAll s (endedOf t)) × (endedOf (drop (runOutcome s t out .read) t) ≡ [])
+  unfolding runOutcome
+  takes-all h =
+      let texts = tellAll s (endedOf t) in
+      rw (e, runs-all (endedOf t) (length out) s h) (take-append-seam texts (drop (length texts) out), none-behind (endedOf t) t refl)
 
 pub in-turn : (xs : List Turn) (s : Schedule) (left : List ℕ) → let r = turns s left xs in tellAll s (linesOf (left ++ cameIn xs)) ≡ r .text ++ tellAll (r .state) (linesOf (r .left))
 unfolding turns
@@ -111,15 +132,6 @@ in-turn (x ∷ xs) s left =
 pub all-taken : (xs : List Turn) → turns (pad fresh) [] xs .left ≡ [] → turns (pad fresh) [] xs .text ≡ output (cameIn xs)
 unfolding linesOf tellAll
 all-taken xs e = sym (in-turn xs (pad fresh) [] ∙ rw e (append-nil (turns (pad fresh) [] xs .text)))
-
--- with room for all texts and one more, no line is left for want of room
-runs-all : (ls : List (List ℕ)) (room : ℕ) (s : Schedule) → length (tellAll s ls) + mostText ≤ room → runs room s ls ≡ record { state = afterLines s ls; read = total ls; text = tellAll s ls }
-unfolding runs tellAll afterLines total
-runs-all [] room s h = refl
-runs-all (l ∷ ls) room s h =
-    let o = tell s l in
-    let size = length-append (o .text) (tellAll (o .state) ls) in
-    rw (le-leb mostText room (omega arith), runs-all ls (room - length (o .text)) (o .state) (omega arith))
 
 -- a text all of whose lines have ended is these lines, each with its line feed
 record AllEnded (t : List ℕ) : Type 0 where

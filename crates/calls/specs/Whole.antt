@@ -32,6 +32,10 @@ lastByte b (c ∷ t) = lastByte c t
 abbrev pub Ended : List ℕ → Type 0
 Ended t = lastByte 10 t ≡ 10
 
+-- what is written for a text and all that follows it: first for the lines of the text that have ended, then, from the schedule `next` on, for the bytes `left` and all that follows
+abbrev pub GoesOn : Schedule → List ℕ → Schedule → List ℕ → Type 0
+GoesOn s t next left = (after : List ℕ) → tellAll s (linesOf (t ++ after)) ≡ tellAll s (endedOf t) ++ tellAll next (linesOf (left ++ after))
+
 -- one run of a host: the bytes that came in since the last, and the buffer that is lent
 pub record Turn : Type 0 where
   pub new : List ℕ
@@ -69,11 +73,14 @@ pub record WholeText : Type 0 where
   pub accepted : (s : Schedule) → sound s ≡ true → (t out : List ℕ) → (runOutcome s t out .number ≡ 0) × (sound (runOutcome s t out .state) ≡ true)
   -- with room for any text it takes a line if one has ended
   pub moves : (s : Schedule) → sound s ≡ true → (t out : List ℕ) → mostText ≤ length out → runOutcome s t out .read ≡ 0 → endedOf t ≡ []
+  -- with room for the texts of all lines that have ended and one more it writes them all, and leaves no line that has ended
+  pub takes-all : (s : Schedule) → sound s ≡ true → (t out : List ℕ) → length (tellAll s (endedOf t)) + mostText ≤ length out
+      → (wrote (runOutcome s t out) ≡ tellAll s (endedOf t)) × (endedOf (drop (runOutcome s t out .read) t) ≡ [])
   -- so runs one after the other from the fresh schedule, wherever what comes in is cut and whatever room each has, write the output of all that came in, up to what they left
   pub in-turn : (xs : List Turn) → let r = turns (pad fresh) [] xs in output (cameIn xs) ≡ r .text ++ tellAll (r .state) (linesOf (r .left))
   -- and if they left nothing, the output
   pub all-taken : (xs : List Turn) → turns (pad fresh) [] xs .left ≡ [] → turns (pad fresh) [] xs .text ≡ output (cameIn xs)
-  -- with room for all texts and one more, one run takes every line of a text whose lines have ended
+  -- of a text whose lines have all ended it takes every byte
   pub at-once : (s : Schedule) → sound s ≡ true → (t out : List ℕ) → Ended t → length (tellAll s (linesOf t)) + mostText ≤ length out
       → runOutcome s t out
       ≡ record { number = 0; value = count (length (tellAll s (linesOf t))); state = afterLines s (linesOf t); read = length t; bytes = over (tellAll s (linesOf t)) out }

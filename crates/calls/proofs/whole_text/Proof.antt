@@ -1,7 +1,7 @@
 -- The promise is the theorem.
 use mathlib.Core.List.{[]}
 use Rattle.rules.specs.Records.{fresh, pad}
-use Rattle.calls.proofs.Whole.{step, ended-step, accepted, moves, in-turn, all-taken, at-once, gives-output, feed, cut, example}
+use Rattle.calls.proofs.Whole.{step, ended-step, accepted, moves, takes-all, in-turn, all-taken, at-once, gives-output, feed, cut, example}
 use Rattle.calls.proofs.whole_text.Statement.{statement}
 use Rattle.calls.proofs.whole_text.Tie as tie
 
@@ -11,6 +11,7 @@ returns c = record {
   ended-step = ended-step;
   accepted = accepted;
   moves = moves;
+  takes-all = takes-all;
   in-turn = λ xs. in-turn xs (pad fresh) [];
   all-taken = all-taken;
   at-once = at-once;
