@@ -31,3 +31,4 @@ pub mod Said
 pub mod Longest
 pub mod Running
 pub mod Progress
+pub mod Whole

@@ -127,7 +127,7 @@ module _ {first : Schedule} {lines old : List ℕ} {s : Schedule} {from at : ℕ
           }
 
 -- how many bytes lines have, each with its line feed
-total : List (List ℕ) → ℕ
+unfoldable pub total : List (List ℕ) → ℕ
 total [] = 0
 total (l ∷ ls) = suc (length l) + total ls
 

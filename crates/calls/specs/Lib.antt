@@ -10,4 +10,5 @@ pub mod Finished
 pub mod Advanced
 pub mod Settled
 pub mod Lines
+pub mod Whole
 pub mod Says

@@ -9,6 +9,7 @@ ghost use Rattle.rules.specs.Calls.{call, addProgram, deliver, cancel, setClock
 ghost use Rattle.calls.specs.Slots.{scheduleOf};
 ghost use Rattle.calls.specs.Answered.{outcomeOf};
 ghost use Rattle.calls.specs.Lines.{lineOutcome, ranOf, runOutcome};
+ghost use Rattle.calls.specs.Whole.{WholeText};
 
 mod advance;
 mod clock;
@@ -174,3 +175,9 @@ pub fn run(s: Schedule, lines: &[u8], out: &mut [u8]) -> Ran
         schedule: s,
     }
 }
+
+// Frames and image, the program. Runs one after the other write what document 01 has printed for the whole text, wherever the text is cut and whatever room each
+// run has; and one run does, if there is room. This function does nothing: it carries the theorem as its promise.
+pub fn whole_text()
+    ensures { λ _. ⌜ WholeText ⌝ }
+{}

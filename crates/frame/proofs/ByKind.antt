@@ -103,3 +103,7 @@ module _ (l : List ℕ) where
           let n = ne-eqb (length (unhex l)) (sizeOf (getD (unhex l) 0 0)) (λ e. other (omega (arith, length-unhex l p))) in
           rw (frame-by-kind (unhex l), n)
       go false p = refl
+
+  -- no kind asks for more than 34 pairs
+  pub long-line : 68 < length l → lineOf l ≡ Bad
+  long-line h = other-length (λ e. omega (arith, size-bound (getD (unhex l) 0 0)))

@@ -1,6 +1,8 @@
 -- Calls, schedules, lines, texts and images, by evaluation; calls and lines by the run that passes over quiet moments.
 use mathlib.Core.Path.{_≡_, refl, sym, ap, _∙_, fun-ext}
+use Prim.Native.Nat.{ℕ}
 use mathlib.Core.Bool.{true}
+use mathlib.Core.List.{List}
 use Rattle.rules.specs.Records.{usable, has, cut, join, fresh, pad}
 use Rattle.rules.specs.Period.{drawnStart, effectiveEnd, effectiveStart}
 use Rattle.rules.specs.Holding.{key, better, claim, taken, heldAt, holdingAt}
@@ -15,7 +17,7 @@ use Rattle.rules.specs.Calls.{bestDefault, holderIn, answerFor, does, ch
 use Rattle.rules.specs.Frames.{digit, paired, unhex, isFrame, frameOf, lineOf}
 use Rattle.rules.specs.Printed.{linesOf, decimal, rowsText, output}
 use Rattle.rules.specs.LineTable.{lineTable, linesHold}
-use Rattle.rules.specs.TextTable.{textInput, textOutput}
+use Rattle.rules.specs.TextTable.{textInput, textOutput, endingsHold, TextTables}
 use Rattle.rules.specs.Script.{scriptsHold}
 use Rattle.rules.specs.CallTable.{callTable, answersHold, CallTables}
 use Rattle.rules.specs.Schedules.{holding, rowsTo, heldEvents}
@@ -46,8 +48,19 @@ texts-evaluate : same (quickTellAll fresh (linesOf textInput)) textOutput ≡ tr
 unfolding linesOf decimal rowsText digit paired unhex isFrame frameOf lineOf read eventAt textInput textOutput quickTellAll quickTellFrame quickCall quickChecks quickDoes jumps nextMoment idleFor advance second entriesFrom rowsAt rowsFrom rowsWith codeAt holdingAt heldAt taken claim better key drawnStart effectiveEnd effectiveStart usable has cut join big flat rowBytes outOfRange malformed sameEvent find late programChecks eventChecks cancelChecks clockChecks askChecks listChecks bestDefault holderIn answerFor does checks
 texts-evaluate = refl
 
-pub texts-printed : output textInput ≡ textOutput
-texts-printed = sym (quick-tell fresh sound-fresh (linesOf textInput)) ∙ same-lists (quickTellAll fresh (linesOf textInput)) textOutput texts-evaluate
+output-quick : (input : List ℕ) → output input ≡ quickTellAll fresh (linesOf input)
+output-quick input = sym (quick-tell fresh sound-fresh (linesOf input))
+
+endings-evaluate : endingsHold (λ input. quickTellAll fresh (linesOf input)) ≡ true
+unfolding endingsHold digit paired unhex isFrame frameOf lineOf read eventAt quickTellAll quickTellFrame quickCall quickChecks quickDoes has programChecks askChecks bestDefault holderIn answerFor does checks linesOf decimal
+endings-evaluate = refl
+
+pub text-tables : TextTables
+text-tables =
+    record {
+      texts = output-quick textInput ∙ same-lists (quickTellAll fresh (linesOf textInput)) textOutput texts-evaluate;
+      endings = ap endingsHold (fun-ext output-quick) ∙ endings-evaluate;
+    }
 
 rules-evaluate : rulesHold ruleTable ≡ true
 unfolding rulesHold ruleTable usable cut drawnStart effectiveEnd outOfRange malformed sameEvent whole withinLimits soundProgram unused ascending ofProgram wellFormed inPeriod lasting carried heldSinceStart noneIfCancelled apart soundEntry sound

@@ -1,13 +1,27 @@
 -- What is printed: a conversation with the program, each line beside all that it writes for it.
+use mathlib.Core.Path.{_≡_}
 use Prim.Native.Nat.{ℕ}
 use Prim.Native.String.{String}
+use mathlib.Core.Bool.{Bool, true}
 use mathlib.Core.List.{List, [], _∷_, _++_}
-use Rattle.rules.specs.Ascii.{lines}
+use Rattle.rules.specs.Lists.{each}
+use Rattle.rules.specs.Ascii.{ascii, lines}
+use Rattle.rules.specs.Printed.{output}
+use Rattle.rules.specs.Marks.{same}
 
 -- a line, and the lines that are printed for it
 pub record Said : Type 0 where
   pub line : String
   pub text : List String
+
+-- a text, and all that is written for it
+pub record Ending : Type 0 where
+  pub text : String
+  pub written : String
+
+infix 70 _ends_
+abbrev _ends_ : String → String → Ending
+t ends w = record { text = t; written = w }
 
 abbrev spoken : List Said → List String
 spoken [] = []
@@ -85,9 +99,32 @@ conversation =
     ∷ "01000000000000000900000000010000006400001388000002580000000000000000" says "refused 9"
     ∷ []
 
+-- where a line ends: a line feed ends it, and the last may lack it
+abbrev endings : List Ending
+endings =
+    ("" ends "")
+    ∷ ("\n" ends "refused 1\n")
+    ∷ ("0500" ends "0 none\n")
+    ∷ ("0500\n" ends "0 none\n")
+    ∷ ("0500\n\n" ends "0 none\nrefused 1\n")
+    ∷ ("0500\n0501" ends "0 none\n1 none\n")
+    ∷ ("\n0500" ends "refused 1\n0 none\n")
+    ∷ ("0500\r\n0501" ends "refused 1\n1 none\n")
+    ∷ []
+
+-- whether each text is written for as the table has it
+unfoldable pub endingsHold : (List ℕ → List ℕ) → Bool
+endingsHold writes = each (λ e. same (writes (ascii (e .text))) (ascii (e .written))) endings
+
 -- what the program reads, and what it writes for it
 unfoldable pub textInput : List ℕ
 textInput = lines (spoken conversation)
 
 unfoldable pub textOutput : List ℕ
 textOutput = lines (printed conversation)
+
+pub record TextTables : Type 0 where
+  -- every text that is printed
+  pub texts : output textInput ≡ textOutput
+  -- and where lines end
+  pub endings : endingsHold output ≡ true

@@ -14,7 +14,7 @@ ghost use Rattle.rules.specs.Table.{table};
 ghost use Rattle.rules.specs.Edges.{edges};
 ghost use Rattle.rules.specs.Example.{exampleInput, exampleOutput};
 ghost use Rattle.rules.specs.LineTable.{linesHold, lineTable};
-ghost use Rattle.rules.specs.TextTable.{textInput, textOutput};
+ghost use Rattle.rules.specs.TextTable.{TextTables};
 ghost use Rattle.rules.specs.CallTable.{CallTables};
 ghost use Rattle.rules.specs.ImageTable.{ImageTables};
 ghost use Rattle.rules.specs.FaceTable.{FaceTables};
@@ -215,9 +215,9 @@ pub fn lines_read()
     ensures { λ _. ⌜ linesHold lineTable ≡ true ⌝ }
 {}
 
-// Frames and image: every text that the program prints, line after line.
+// Frames and image: every text that the program prints, line after line, and where a line ends.
 pub fn texts_printed()
-    ensures { λ _. ⌜ output textInput ≡ textOutput ⌝ }
+    ensures { λ _. ⌜ TextTables ⌝ }
 {}
 
 // Frames and image: each rule of an image kept by one and broken by one, and each byte where it stands.

@@ -7,6 +7,7 @@ ghost use mathlib.Core.List.{[]};
 ghost use lib.ListN.{length, take, drop};
 ghost use Rattle.rules.specs.Sound.{sound};
 ghost use Rattle.calls.specs.Lines.{endedOf};
+ghost use Rattle.calls.specs.Whole.{GoesOn};
 ghost use Rattle.text.specs.Texts.{mostText};
 use libc::STDIN_FILENO;
 use libc::STDOUT_FILENO;
@@ -22,10 +23,10 @@ struct Piece {
     written: bool,
 }
 
-// Runs over all lines that end in a piece, and writes their texts.
+// Runs over all lines that end in a piece, and writes their texts. The schedule and the bytes that it leaves go on where the texts of these lines stop.
 fn print_lines(mut s: Schedule, piece: &[u8], out: &mut [u8]) -> Piece
     requires { ⌜ (sound s ≡ true) × (mostText ≤ length (now out)) ⌝ }
-    ensures { λ r. ⌜ (sound (r .schedule) ≡ true) × (r .read ≤ length (now (piece .entry))) × (r .written ≡ true → endedOf (drop (r .read) (now (piece .entry))) ≡ []) ⌝ }
+    ensures { λ r. ⌜ (sound (r .schedule) ≡ true) × (r .read ≤ length (now (piece .entry))) × (r .written ≡ true → endedOf (drop (r .read) (now (piece .entry))) ≡ []) × (r .written ≡ true → GoesOn s (now (piece .entry)) (r .schedule) (drop (r .read) (now (piece .entry)))) ⌝ }
 {
     let mut from = 0;
     loop {

@@ -1,25 +1,58 @@
--- What is left of the piece gets shorter with each run that takes a line.
-use mathlib.Core.Path.{_≡_, refl, sym, ap, _∙_}
-use Prim.Native.Nat.{_+_, _-_, _≤_}
+-- What is left of the piece gets shorter with each run that takes a line. What the runs wrote and what is still to be written are together what is written for the piece.
+use mathlib.Core.Path.{_≡_, refl, sym, ap, _∙_, subst}
+use Prim.Native.Nat.{ℕ, _+_, _-_, _≤_}
 use mathlib.Core.Bool.{true, false≢true}
+use mathlib.Core.List.{List, [], _++_, append-assoc, append-nil}
 use native.Mathlib.Omega.{arith}
 use borrow.Author.Needs.{needs}
 use lib.ListN.{length, take, drop, length-drop}
-use lib.Seq.{length-take-le, take-all}
+use lib.Seq.{length-take-le, take-all, drop-drop}
+use Rattle.rules.specs.declared.Schedule.{Schedule}
 use Rattle.rules.specs.Sound.{sound}
-use Rattle.calls.specs.Lines.{endedOf}
+use Rattle.rules.specs.Printed.{linesOf, tellAll}
+use Rattle.calls.specs.declared.Ran.{Ran}
+use Rattle.calls.specs.Lines.{endedOf, ranOf, runOutcome}
+use Rattle.calls.specs.Whole.{wrote, GoesOn}
 use Rattle.calls.proofs.Progress.{Went, went}
+use Rattle.calls.proofs.Whole.{step, ended-step}
 use Rattle.schedule.proofs.print_lines.Statement.{statement}
 use Rattle.schedule.proofs.print_lines.Tie as tie
 
+-- before each run: `text` is what the runs before it wrote, and all that is still to be written comes behind it
+record Printed (first : Schedule) (piece : List ℕ) (s : Schedule) (from : ℕ) : Type 0 where
+  text : List ℕ
+  lines : (after : List ℕ) → tellAll first (linesOf (piece ++ after)) ≡ text ++ tellAll s (linesOf (drop from piece ++ after))
+  ended : tellAll first (endedOf piece) ≡ text ++ tellAll s (endedOf (drop from piece))
+
+module _ {first : Schedule} {piece : List ℕ} {s : Schedule} {from : ℕ} (p : Printed first piece s from) where
+  -- one run more
+  printed-more : (r : Ran) (out : List ℕ) {rest bytes : List ℕ} → ranOf r bytes ≡ runOutcome s rest out → rest ≡ drop from piece → Printed first piece (r .schedule) (from + r .read)
+  printed-more r out {rest} {bytes} q e =
+      let lines : (after : List ℕ) → tellAll s (linesOf (drop from piece ++ after)) ≡ wrote (ranOf r bytes) ++ tellAll (r .schedule) (linesOf (drop (from + r .read) piece ++ after)) =
+      λ after. rw (e, drop-drop) at (subst (λ o. tellAll s (linesOf (rest ++ after)) ≡ wrote o ++ tellAll (o .state) (linesOf (drop (o .read) rest ++ after))) (sym q) (step s rest out after)) in
+      let ended : tellAll s (endedOf (drop from piece)) ≡ wrote (ranOf r bytes) ++ tellAll (r .schedule) (endedOf (drop (from + r .read) piece)) =
+      rw (e, drop-drop) at (subst (λ o. tellAll s (endedOf rest) ≡ wrote o ++ tellAll (o .state) (endedOf (drop (o .read) rest))) (sym q) (ended-step s rest out)) in
+      record {
+        text = p .text ++ wrote (ranOf r bytes);
+        lines = λ after. p .lines after ∙ rw (lines after, append-assoc);
+        ended = p .ended ∙ rw (ended, append-assoc);
+      }
+
+  -- no line that has ended is left
+  printed-all : endedOf (drop from piece) ≡ [] → GoesOn first piece s (drop from piece)
+  unfolding tellAll
+  printed-all none after =
+      let all : tellAll first (endedOf piece) ≡ p .text = p .ended ∙ rw none (append-nil (p .text)) in
+      rw all (p .lines after)
+
 abbrev Inv-loop : tie.InvT-loop
-Inv-loop s₀ piece out₀ from₀ s out from = (sound s ≡ true) × (from ≤ length piece) × (length out ≡ length out₀)
+Inv-loop s₀ piece out₀ from₀ s out from = (sound s ≡ true) × (from ≤ length piece) × (length out ≡ length out₀) × Printed s₀ piece s from
 
 abbrev μ-loop : tie.MeasureT-loop
 μ-loop s₀ piece out₀ from₀ s out from = length piece - from
 
 loop-holds : tie.Need-loop-holds Inv-loop μ-loop
-loop-holds c = (c .before .before .pre .0, omega arith, refl)
+loop-holds c = (c .before .before .pre .0, omega arith, refl, record { text = []; lines = λ after. refl; ended = refl })
 
 part-run-start : tie.Need-part-run-start Inv-loop μ-loop
 part-run-start c = c .loop .inv .1
@@ -46,7 +79,7 @@ returns c =
     let l = r .before .before .before .loop in
     let a = r .before .before .before .before .before .before .args in
     let w = went (l .s) (l .inv .0) (r .run .result) (r .run .ensures) in
-    (w .is-sound, l .inv .1, λ e. absurd (false≢true e))
+    (w .is-sound, l .inv .1, (λ e. absurd (false≢true e)), λ e. absurd (false≢true e))
 
 returns-2 : tie.Need-returns-2 Inv-loop μ-loop
 returns-2 c =
@@ -54,7 +87,10 @@ returns-2 c =
     let l = r .before .before .before .loop in
     let a = r .before .before .before .before .before .before .args in
     let w = went (l .s) (l .inv .0) (r .run .result) (r .run .ensures) in
-    (w .is-sound, l .inv .1, λ e. rw (take-all (length (a .piece .now) - l .from) (drop (l .from) (a .piece .now)) (omega (arith, length-drop (l .from) (a .piece .now)))) at (w .some (omega (arith, r .before .before .before .before .before .before .pre .1, l .inv .2)) (c .if2 .taken)))
+    let all = take-all (length (a .piece .now) - l .from) (drop (l .from) (a .piece .now)) (omega (arith, length-drop (l .from) (a .piece .now))) in
+    let none = rw all at (w .some (omega (arith, r .before .before .before .before .before .before .pre .1, l .inv .2)) (c .if2 .taken)) in
+    let stays : l .from + r .run .result .read ≡ l .from = omega (arith, c .if2 .taken) in
+    (w .is-sound, l .inv .1, (λ e. none), λ e. printed-all (rw stays at (printed-more (l .inv .3) (r .run .result) _ (r .run .ensures) all)) none)
 
 add-from : tie.Need-add-from Inv-loop μ-loop
 add-from c =
@@ -78,7 +114,8 @@ loop-again c =
     let l = r .before .before .before .loop in
     let a = r .before .before .before .before .before .before .args in
     let w = went (l .s) (l .inv .0) (r .run .result) (r .run .ensures) in
-    (w .is-sound, omega (arith, w .within, l .inv .1), c .before .before .before .before .before .before .before .before .before .out .given ∙ l .inv .2)
+    let all = take-all (length (a .piece .now) - l .from) (drop (l .from) (a .piece .now)) (omega (arith, length-drop (l .from) (a .piece .now))) in
+    (w .is-sound, omega (arith, w .within, l .inv .1), c .before .before .before .before .before .before .before .before .before .out .given ∙ l .inv .2, printed-more (l .inv .3) (r .run .result) _ (r .run .ensures) all)
 
 pub print-lines-spec : {M : Type 1} → statement M
 print-lines-spec =

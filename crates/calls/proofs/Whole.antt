@@ -1,0 +1,249 @@
+-- A run takes lines from the front of a text, and leaves those behind them as they were: so what is written goes on where the run stopped.
+use mathlib.Core.Path.{_≡_, refl, sym, ap, _∙_}
+use Prim.Native.Nat.{ℕ, zero, suc, _+_, _-_, _<_, _≤_}
+use mathlib.Core.Bool.{Bool, true, false, cond}
+use mathlib.Core.List.{List, [], _∷_, _++_, append-assoc, append-nil}
+use native.Mathlib.Omega.{arith}
+use borrow.Author.Tests.{ltb-true, ltb-false, eqb-false, ne-eqb, le-leb}
+use lib.Dec.{leb, ltb, eqb}
+use lib.ListN.{length, take, drop, length-append}
+use lib.Seq.{drop-drop, length-take-le, take-all, take-append-seam}
+use Rattle.rules.specs.declared.Schedule.{Schedule}
+use Rattle.rules.specs.Records.{fresh, pad}
+use Rattle.rules.specs.Lists.{over}
+use Rattle.rules.specs.Sound.{sound}
+use Rattle.rules.specs.Calls.{nothing, count}
+use Rattle.rules.specs.Printed.{linesOf, lineFeed, tell, tellAll, output}
+use Rattle.rules.specs.Example.{exampleInput, exampleOutput}
+use Rattle.rules.proofs.SoundState.{sound-pad}
+use Rattle.rules.proofs.SoundKept.{sound-fresh}
+use Rattle.rules.proofs.Evaluated.{worked-example}
+use Rattle.frame.proofs.ByKind.{long-line}
+use Rattle.text.specs.Texts.{mostText}
+use Rattle.calls.specs.Lines.{longer, endedOf, upTo, runs, ranInto, runOutcome}
+use Rattle.calls.specs.Whole.{wrote, afterLines, lastByte, Ended, Turn, cameIn, turns}
+use Rattle.calls.proofs.Ends.{ended-first, ended-none, up-to-within}
+use Rattle.calls.proofs.Running.{after, total}
+use Rattle.calls.proofs.Progress.{runs-some, runs-sound}
+
+-- the first line of a text that has a line feed, and the lines after it
+lines-first : (t more : List ℕ) → upTo t < length t → linesOf (t ++ more) ≡ take (upTo t) t ∷ linesOf (drop (suc (upTo t)) t ++ more)
+unfolding linesOf upTo
+lines-first [] more h = absurd (omega arith)
+lines-first (b ∷ bs) more h = by (eqb b 10) refl (lines-first bs more)
+  where
+    by : (x : Bool) → eqb b 10 ≡ x → (upTo bs < length bs → linesOf (bs ++ more) ≡ take (upTo bs) bs ∷ linesOf (drop (suc (upTo bs)) bs ++ more))
+        → linesOf (b ∷ (bs ++ more)) ≡ take (upTo (b ∷ bs)) (b ∷ bs) ∷ linesOf (drop (suc (upTo (b ∷ bs))) (b ∷ bs) ++ more)
+    by true e ih = rw e
+    by false e ih = rw (e, ih (omega (arith, rw e at h)))
+
+-- a line that has ended is a line, and those after it are those of the rest
+record FirstLine (t l : List ℕ) (ls : List (List ℕ)) : Type 0 where
+  first : (more : List ℕ) → linesOf (t ++ more) ≡ l ∷ linesOf (drop (suc (length l)) t ++ more)
+  rest : endedOf (drop (suc (length l)) t) ≡ ls
+
+first-line : (t l : List ℕ) (ls : List (List ℕ)) → endedOf t ≡ l ∷ ls → FirstLine t l ls
+first-line t l ls e = by (ltb (upTo t) (length t)) refl
+  where
+    by : (x : Bool) → ltb (upTo t) (length t) ≡ x → FirstLine t l ls
+    by true x =
+        let h = ltb-true (upTo t) (length t) x in
+        let q = sym e ∙ ended-first t h in
+        let p : l ≡ take (upTo t) t = cc in
+        let n : length l ≡ upTo t = ap length p ∙ length-take-le (upTo t) t (omega arith) in
+        record { first = λ more. rw (n, p) (lines-first t more h); rest = rw n (cc) }
+    by false x =
+        let none = ended-none t (omega (arith, ltb-false (upTo t) (length t) x, up-to-within t)) in
+        let z : _≡_ {A = ℕ} 0 1 = cc in
+        absurd (omega arith)
+
+-- lines that begin with those that have ended, and go on with those of the rest
+module _ (lines : List ℕ → List (List ℕ)) (first : (t l : List ℕ) (ls : List (List ℕ)) → endedOf t ≡ l ∷ ls → lines t ≡ l ∷ lines (drop (suc (length l)) t)) where
+  runs-step : (ls : List (List ℕ)) (room : ℕ) (s : Schedule) (t : List ℕ) → endedOf t ≡ ls
+      → tellAll s (lines t) ≡ runs room s ls .text ++ tellAll (runs room s ls .state) (lines (drop (runs room s ls .read) t))
+  unfolding runs tellAll
+  runs-step [] room s t e = refl
+  runs-step (l ∷ ls) room s t e =
+      by (leb mostText room) (runs-step ls (room - length (tell s l .text)) (tell s l .state) (drop (suc (length l)) t) (first-line t l ls e .rest))
+    where
+      by : (x : Bool)
+          → let r = runs (room - length (tell s l .text)) (tell s l .state) ls in
+          tellAll (tell s l .state) (lines (drop (suc (length l)) t)) ≡ r .text ++ tellAll (r .state) (lines (drop (r .read) (drop (suc (length l)) t)))
+          → let r = cond x (after (suc (length l)) (tell s l .text) (runs (room - length (tell s l .text)) (tell s l .state) ls)) (record { state = s; read = 0; text = [] }) in
+          tellAll s (lines t) ≡ r .text ++ tellAll (r .state) (lines (drop (r .read) t))
+      by true ih = rw (first t l ls e, ih, drop-drop, append-assoc)
+      by false ih = refl
+
+  run-step : (s : Schedule) (t out : List ℕ) → tellAll s (lines t) ≡ wrote (runOutcome s t out) ++ tellAll (runOutcome s t out .state) (lines (drop (runOutcome s t out .read) t))
+  unfolding runOutcome
+  run-step s t out = by (sound s)
+    where
+      by : (x : Bool)
+          → let r = cond x (ranInto (runs (length out) s (endedOf t)) out) (record { number = 2; value = nothing; state = s; read = 0; bytes = out }) in
+          tellAll s (lines t) ≡ wrote r ++ tellAll (r .state) (lines (drop (r .read) t))
+      by true = let texts = runs (length out) s (endedOf t) .text in rw (take-append-seam texts (drop (length texts) out)) (runs-step (endedOf t) (length out) s t refl)
+      by false = refl
+
+pub step : (s : Schedule) (t out more : List ℕ)
+    → tellAll s (linesOf (t ++ more)) ≡ wrote (runOutcome s t out) ++ tellAll (runOutcome s t out .state) (linesOf (drop (runOutcome s t out .read) t ++ more))
+step s t out more = run-step (λ t. linesOf (t ++ more)) (λ t l ls e. first-line t l ls e .first more) s t out
+
+pub ended-step : (s : Schedule) (t out : List ℕ)
+    → tellAll s (endedOf t) ≡ wrote (runOutcome s t out) ++ tellAll (runOutcome s t out .state) (endedOf (drop (runOutcome s t out .read) t))
+ended-step = run-step endedOf (λ t l ls e. e ∙ ap (λ r. l ∷ r) (sym (first-line t l ls e .rest)))
+
+-- with room for all texts and one more, no line is left for want of room
+runs-all : (ls : List (List ℕ)) (room : ℕ) (s : Schedule) → length (tellAll s ls) + mostText ≤ room → runs room s ls ≡ record { state = afterLines s ls; read = total ls; text = tellAll s ls }
+unfolding runs tellAll afterLines total
+runs-all [] room s h = refl
+runs-all (l ∷ ls) room s h =
+    let o = tell s l in
+    let size = length-append (o .text) (tellAll (o .state) ls) in
+    rw (le-leb mostText room (omega arith), runs-all ls (room - length (o .text)) (o .state) (omega arith))
+
+-- behind all lines that have ended there is none
+none-behind : (ls : List (List ℕ)) (t : List ℕ) → endedOf t ≡ ls → endedOf (drop (total ls) t) ≡ []
+unfolding total
+none-behind [] t e = e
+none-behind (l ∷ ls) t e = rw (← drop-drop (total ls) (suc (length l)) t) (none-behind ls (drop (suc (length l)) t) (first-line t l ls e .rest))
+
+module _ (s : Schedule) (e : sound s ≡ true) (t out : List ℕ) where
+  pub accepted : (runOutcome s t out .number ≡ 0) × (sound (runOutcome s t out .state) ≡ true)
+  unfolding runOutcome
+  accepted = rw e (refl, runs-sound (length out) s e (endedOf t))
+
+  pub moves : mostText ≤ length out → runOutcome s t out .read ≡ 0 → endedOf t ≡ []
+  unfolding runOutcome
+  moves h z = runs-some (length out) s h (endedOf t) (rw e at z)
+
+  pub takes-all : length (tellAll s (endedOf t)) + mostText ≤ length out → (wrote (runOutcome s t out) ≡ tellAll s (endedOf t)) × (endedOf (drop (runOutcome s t out .read) t) ≡ [])
+  unfolding runOutcome
+  takes-all h =
+      let texts = tellAll s (endedOf t) in
+      rw (e, runs-all (endedOf t) (length out) s h) (take-append-seam texts (drop (length texts) out), none-behind (endedOf t) t refl)
+
+pub in-turn : (xs : List Turn) (s : Schedule) (left : List ℕ) → let r = turns s left xs in tellAll s (linesOf (left ++ cameIn xs)) ≡ r .text ++ tellAll (r .state) (linesOf (r .left))
+unfolding turns
+in-turn [] s left = rw append-nil
+in-turn (x ∷ xs) s left =
+    let r = runOutcome s (left ++ x .new) (x .out) in
+    rw (← append-assoc left (x .new) (cameIn xs), step s (left ++ x .new) (x .out) (cameIn xs), in-turn xs (r .state) (drop (r .read) (left ++ x .new)), append-assoc)
+
+pub all-taken : (xs : List Turn) → turns (pad fresh) [] xs .left ≡ [] → turns (pad fresh) [] xs .text ≡ output (cameIn xs)
+unfolding linesOf tellAll
+all-taken xs e = sym (in-turn xs (pad fresh) [] ∙ rw e (append-nil (turns (pad fresh) [] xs .text)))
+
+-- a text all of whose lines have ended is these lines, each with its line feed
+record AllEnded (t : List ℕ) : Type 0 where
+  lines : linesOf t ≡ endedOf t
+  size : total (endedOf t) ≡ length t
+
+all-ended : (t : List ℕ) → Ended t → AllEnded t
+unfolding linesOf endedOf lastByte total
+all-ended [] h = record { lines = refl; size = refl }
+all-ended (b ∷ []) h = by (eqb b 10) refl
+  where
+    by : (x : Bool) → eqb b 10 ≡ x → AllEnded (b ∷ [])
+    by true e = record { lines = rw e; size = rw e }
+    by false e = absurd (eqb-false b 10 e h)
+all-ended (b ∷ c ∷ t) h = by (eqb b 10) refl (endedOf (c ∷ t)) refl (all-ended (c ∷ t) h)
+  where
+    by : (x : Bool) → eqb b 10 ≡ x → (ls : List (List ℕ)) → endedOf (c ∷ t) ≡ ls → AllEnded (c ∷ t) → AllEnded (b ∷ c ∷ t)
+    by true e ls q ih = record { lines = rw (e, ih .lines); size = rw e (omega (arith, ih .size)) }
+    by false e [] q ih = absurd (omega (arith, rw q at (ih .size)))
+    by false e (l ∷ ls) q ih = record { lines = rw (e, ih .lines, q); size = rw (e, q) (omega (arith, rw q at (ih .size))) }
+
+pub at-once : (s : Schedule) → sound s ≡ true → (t out : List ℕ) → Ended t → length (tellAll s (linesOf t)) + mostText ≤ length out
+    → runOutcome s t out
+    ≡ record { number = 0; value = count (length (tellAll s (linesOf t))); state = afterLines s (linesOf t); read = length t; bytes = over (tellAll s (linesOf t)) out }
+unfolding runOutcome
+at-once s e t out h room =
+    let a = all-ended t h in
+    rw (e, a .lines, runs-all (endedOf t) (length out) s (rw (a .lines) at room), a .size)
+
+last-feed : (t : List ℕ) (b : ℕ) → lastByte b (t ++ lineFeed) ≡ 10
+unfolding lastByte
+last-feed [] b = refl
+last-feed (c ∷ t) b = last-feed t c
+
+feed-same : (t : List ℕ) → (Ended t → ⊥) → linesOf (t ++ lineFeed) ≡ linesOf t
+unfolding linesOf lastByte
+feed-same [] h = absurd (h refl)
+feed-same (b ∷ []) h = rw (ne-eqb b 10 h)
+feed-same (b ∷ c ∷ t) h = rw (feed-same (c ∷ t) h)
+
+pub feed : (t : List ℕ) → (Ended t → ⊥) → (linesOf (t ++ lineFeed) ≡ linesOf t) × Ended (t ++ lineFeed)
+feed t h = (feed-same t h, last-feed t 10)
+
+-- bytes without a line feed stand before the first line of what follows
+abbrev before : List ℕ → List (List ℕ) → List (List ℕ)
+before t [] = t ∷ []
+before t (l ∷ ls) = (t ++ l) ∷ ls
+
+-- no line feed in a text, and none in its rest
+rest-none : (b : ℕ) (t : List ℕ) → endedOf (b ∷ t) ≡ [] → (eqb b 10 ≡ false) × (endedOf t ≡ [])
+unfolding endedOf
+rest-none b t e = by (eqb b 10) (endedOf t) e
+  where
+    by : (x : Bool) (ls : List (List ℕ)) → cond x ([] ∷ ls) (longer b ls) ≡ [] → (x ≡ false) × (ls ≡ [])
+    by true ls e = let z : _≡_ {A = ℕ} 0 1 = cc in absurd (omega arith)
+    by false [] e = (refl, refl)
+    by false (l ∷ ls) e = let z : _≡_ {A = ℕ} 0 1 = cc in absurd (omega arith)
+
+take-none : (n : ℕ) (t : List ℕ) → endedOf t ≡ [] → endedOf (take n t) ≡ []
+unfolding endedOf
+take-none zero t e = refl
+take-none (suc n) [] e = refl
+take-none (suc n) (b ∷ t) e = let r = rest-none b t e in rw (r .0, take-none n t (r .1))
+
+lines-behind : (b : ℕ) (t more : List ℕ) → endedOf (b ∷ t) ≡ [] → linesOf (b ∷ (t ++ more)) ≡ before (b ∷ t) (linesOf more)
+unfolding linesOf
+lines-behind b [] more e = by (linesOf more) refl
+  where
+    by : (ls : List (List ℕ)) → linesOf more ≡ ls → linesOf (b ∷ more) ≡ before (b ∷ []) ls
+    by [] q = rw (rest-none b [] e .0, q)
+    by (l ∷ ls) q = rw (rest-none b [] e .0, q)
+lines-behind b (c ∷ t) more e = by (linesOf more) (lines-behind c t more (rest-none b (c ∷ t) e .1))
+  where
+    by : (ls : List (List ℕ)) → linesOf (c ∷ (t ++ more)) ≡ before (c ∷ t) ls → linesOf (b ∷ c ∷ (t ++ more)) ≡ before (b ∷ c ∷ t) ls
+    by [] q = rw (rest-none b (c ∷ t) e .0, q)
+    by (l ∷ ls) q = rw (rest-none b (c ∷ t) e .0, q)
+
+-- a line of more than 68 bytes is no frame, so it does not count which it is
+tell-long : (s : Schedule) (l m : List ℕ) → 68 < length l → 68 < length m → tell s l ≡ tell s m
+unfolding tell
+tell-long s l m h k = rw (long-line l h, long-line m k)
+
+pub cut : (s : Schedule) (t more : List ℕ) → endedOf t ≡ [] → tellAll s (linesOf (take 69 t ++ more)) ≡ tellAll s (linesOf (t ++ more))
+unfolding tellAll
+cut s [] more e = refl
+cut s (b ∷ t) more e = by (ltb 68 (length t)) refl
+  where
+    long : 68 < length t → (l : List ℕ) → tell s (b ∷ (take 68 t ++ l)) ≡ tell s (b ∷ (t ++ l))
+    long h l =
+        tell-long s _ _
+        (omega (arith, length-append (take 68 t) l, length-take-le 68 t (omega arith)))
+        (omega (arith, length-append t l))
+
+    same : 68 < length t → (ls : List (List ℕ)) → tellAll s (before (b ∷ take 68 t) ls) ≡ tellAll s (before (b ∷ t) ls)
+    same h [] = rw (simp append-nil at (long h []))
+    same h (l ∷ ls) = rw (long h l)
+
+    by : (x : Bool) → ltb 68 (length t) ≡ x → tellAll s (linesOf (take 69 (b ∷ t) ++ more)) ≡ tellAll s (linesOf (b ∷ (t ++ more)))
+    by true x = rw (lines-behind b (take 68 t) more (take-none 69 (b ∷ t) e), lines-behind b t more e) (same (ltb-true 68 (length t) x) (linesOf more))
+    by false x = rw (take-all 68 t (omega (arith, ltb-false 68 (length t) x)))
+
+pub gives-output : (t out : List ℕ) → Ended t → length (output t) + mostText ≤ length out
+    → runOutcome (pad fresh) t out
+    ≡ record { number = 0; value = count (length (output t)); state = afterLines (pad fresh) (linesOf t); read = length t; bytes = over (output t) out }
+gives-output = at-once (pad fresh) (sound-pad fresh sound-fresh)
+
+-- its last byte is a line feed
+example-ended : Ended exampleInput
+unfolding lastByte exampleInput
+example-ended = refl
+
+pub example : (out : List ℕ) → length exampleOutput + mostText ≤ length out
+    → runOutcome (pad fresh) exampleInput out
+    ≡ record { number = 0; value = count (length exampleOutput); state = afterLines (pad fresh) (linesOf exampleInput); read = length exampleInput; bytes = over exampleOutput out }
+example out room = rw worked-example at (gives-output exampleInput out example-ended (rw worked-example room))
