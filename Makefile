@@ -4,8 +4,9 @@
 # make picture   draws the recorded day and the bench marks T10 and T11
 # make picture LIST=my.frames OUT=my.svg [ARGUMENTS="--from 5000 --to 6000"]   draws another list
 # make fuzz   lines and images by a coverage-guided fuzzer beside the independent scheduler, ten minutes each; not part of the gate
+# make mutants   makes the definitions wrong, one token at a time, and tells what notices; about half an hour; not part of the gate
 # make test   proves everything, tries every must-fail edit, runs the tests: the gate
-.PHONY: run host bench fuzz picture test clean
+.PHONY: run host bench fuzz mutants picture test clean
 
 run: build/schedule.log
 	@target/bin/schedule < examples/day.frames
@@ -35,6 +36,9 @@ fuzz: build/schedule.log build/archive.log
 	@echo "fuzzing images, then lines, ten minutes each" >&2
 	@tests/fuzz/run images 600
 	@tests/fuzz/run lines 600
+
+mutants:
+	@tests/mutants
 
 PICTURE = build/oracle/release/picture
 
