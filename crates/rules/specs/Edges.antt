@@ -96,7 +96,14 @@ edges =
     ∷ after [] (deliver (event 0 1 5000 600 100 0 100 0)) 0
     ∷ after [] (deliver (event 0 1 5000 600 100 0 101 0)) 7
     ∷ after [] (deliver (event 0 1 5000 600 100 0 (minus 1) 0)) 7
+    ∷ after [] (deliver (event 0 1 5000 600 100 0 0 0)) 0
+    ∷ after [] (deliver (event 0 1 5000 600 (minus 100) 0 0 0)) 0
+    ∷ after [] (deliver (event 0 1 5000 600 (minus 100) 0 1 0)) 7
     ∷ after [] (deliver (event 0 1 5000 600 0 100 0 101)) 7
+    ∷ after [] (deliver (event 0 1 5000 600 0 100 0 0)) 0
+    ∷ after [] (deliver (event 0 1 5000 600 0 (minus 100) 0 0)) 0
+    ∷ after [] (deliver (event 0 1 5000 600 0 (minus 100) 0 1)) 7
+    ∷ after [] (deliver (event 0 1 5000 0 0 100 0 1)) 7
     ∷ after [] (deliver (event 0 1 5000 600 0 (minus 600) 0 (minus 599))) 0
     ∷ after [] (deliver (event 0 1 5000 600 0 (minus 600) 0 (minus 600))) 7
     -- 7 before 8, 8 before 9, and no 9 for what is held: the raw end is at 5600, the effective end at 5700
