@@ -1,16 +1,24 @@
 -- The tests are those of `formed`, in its order.
-use mathlib.Core.Path.{_∙_}
-use mathlib.Core.Bool.{and-false}
+use mathlib.Core.Path.{_≡_, sym, _∙_}
+use Prim.Native.Nat.{ℕ}
+use mathlib.Core.Bool.{true, and-false}
+use mathlib.Core.List.{List}
 use borrow.Author.Needs.{needs}
 use borrow.Author.Tests.{eq-eqb, ne-eqb, not-true, not-false}
-use Rattle.rules.specs.Image.{formed}
+use lib.ListN.{length}
+use Rattle.rules.specs.Records.{mostEvents}
+use Rattle.rules.specs.Image.{entrySize, imageSize, marked, formed}
 use Rattle.image.specs.Exchange.{readOf}
 use Rattle.image.proofs.read.Statement.{statement}
 use Rattle.image.proofs.read.Tie as tie
 
+formed-if : (l : List ℕ) → length l ≡ imageSize → marked 6 8 9 l ≡ true → marked entrySize mostEvents 102 l ≡ true → formed l ≡ true
+unfolding formed
+formed-if l n p e = rw (eq-eqb _ _ n, p, e)
+
 returns : tie.Need-returns
 unfolding readOf formed
-returns c = c .no-image .ensures ∙ simp (ne-eqb _ _ (c .before .if1 .taken))
+returns c = c .no-image .ensures ∙ simp (ne-eqb _ imageSize (c .before .if1 .taken))
 
 returns-2 : tie.Need-returns-2
 unfolding readOf formed
@@ -25,13 +33,13 @@ returns-3 c =
     c .no-image3 .ensures ∙ simp (← m .ensures, not-true (m .result) (c .before .if3 .taken), and-false)
 
 returns-4 : tie.Need-returns-4
-unfolding readOf formed
+unfolding readOf
 returns-4 c =
     let m = c .before .before .is-marked2 in
     let p = c .before .before .before .before .is-marked in
     let q = not-false (p .result) (c .before .before .before .if2 .left) in
     let n = not-false (m .result) (c .before .if3 .left) in
-    rw (eq-eqb _ _ (c .before .before .before .before .before .if1 .left), ← p .ensures, q, ← m .ensures, n, c .schedule .ensures)
+    rw (formed-if _ (c .before .before .before .before .before .if1 .left) (sym (p .ensures) ∙ q) (sym (m .ensures) ∙ n), c .schedule .ensures)
 
 pub read-spec : {M : Type 1} → statement M
 read-spec =

@@ -1,5 +1,6 @@
 -- Each rule is tested by the function for it. That the arrays have their places is known of every schedule given by value.
-use mathlib.Core.Bool.{and-false}
+use mathlib.Core.Path.{_≡_}
+use mathlib.Core.Bool.{true, and-false}
 use borrow.Author.Needs.{needs}
 use borrow.Author.Tests.{leb-true}
 use lib.Dec.{leb}
@@ -19,12 +20,14 @@ returns : tie.Need-returns
 unfolding sound withinLimits
 returns c =
     let start = c .before .before .before .before .before .before in
+    let s = start .args .s in
+    let within : withinLimits s ≡ true = c .before .before .before .if1 .taken in
     rw (
       c .has-sound-entries .ensures,
       c .before .has-unused-rest .ensures,
       c .before .before .has-sound-programs .ensures,
-      whole-always (start .args .s) _ (start .good .0),
-      c .before .before .before .if1 .taken,
+      whole-always s _ (start .good .0),
+      within,
     )
 
 returns-2 : tie.Need-returns-2

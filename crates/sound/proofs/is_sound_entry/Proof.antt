@@ -30,9 +30,9 @@ returns c ps f =
       c .is-rightly-held .ensures,
       c .before .is-in-period .ensures,
       c .before .before .is-malformed .ensures,
-      looked-up ps (start .args .p) (start .args .h) f,
-      and-assoc,
+      ← looked-up ps (start .args .p) (start .args .h) f,
     )
+    (simp and-assoc)
 
 pub is-sound-entry-spec : {M : Type 1} → statement M
 is-sound-entry-spec = tie.close (tie.spec (λ c κs. search needs) (λ c κs. search needs) (λ c κs. search needs) returns)

@@ -55,8 +55,9 @@ returns-3 c =
     let a = start .args in
     let went = c .before .before .before .before .before .before .before .before .before in
     let n = went .advance .result .rows in
-    (λ i. record { number = 0; value = count n; state = c .put-together .ensures i; bytes = (c .before .before .before .before .before .copy .ensures ∙ copy-inside (17 * n) _ (a .buffer .now) (omega (arith, at-most went, went .advance .ensures .advanced .size)) (c .before .before .before .before .before .before .before .before .if2 .left)) i; records = [] })
-    ∙ fits (a .s) (start .pre) (a .reading) (in-time went) _ _ n (moved went) (a .buffer .now) (c .before .before .before .before .before .before .before .before .if2 .left)
+    let room : 17 * n ≤ length (a .buffer .now) = omega (arith, c .before .before .before .before .before .before .before .before .if2 .left) in
+    (λ i. record { number = 0; value = count n; state = c .put-together .ensures i; bytes = (c .before .before .before .before .before .copy .ensures ∙ copy-inside (17 * n) _ (a .buffer .now) (omega (arith, at-most went, went .advance .ensures .advanced .size)) room) i; records = [] })
+    ∙ fits (a .s) (start .pre) (a .reading) (in-time went) _ _ n (moved went) (a .buffer .now) room
 
 pub set-clock-spec : {M : Type 1} → statement M
 set-clock-spec =
