@@ -1,4 +1,4 @@
--- Numbers given, each on its edge: the last value that is refused beside the first that is not.
+-- Numbers given, 3 to 14, each on its edge: the last value that is refused beside the first that is not. (1: LineTable, TextTable; 2: ImageTable.)
 use Prim.Native.Nat.{ℕ, zero, suc, _+_, _-_}
 use mathlib.Core.List.{List, [], _∷_, _++_}
 use lib.ListN.{replicate}

@@ -180,7 +180,7 @@ pub fn bench_marks()
     ensures { λ _. ⌜ allHold (replies (pad fresh)) table ≡ true ⌝ }
 {}
 
-// Numbers given: each number is given on the one side of its edge and not on the other.
+// Numbers given: 3 to 14, each given on the one side of its edge and not on the other. Number 1 is in `lines_read` and `texts_printed`, number 2 in `images_tried`.
 pub fn number_edges()
     ensures { λ _. ⌜ edgesHold (replies (pad fresh)) edges ≡ true ⌝ }
 {}
