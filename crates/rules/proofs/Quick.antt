@@ -10,7 +10,7 @@ use borrow.Author.Tests.{ltb-false, eqb-true}
 use Rattle.rules.specs.declared.Frame.{Frame}
 use Rattle.rules.specs.declared.Line.{Line}
 use Rattle.rules.specs.declared.Line.the-variants.{Good, Bad}
-use Rattle.rules.specs.Records.{State, lastClock, fresh, pad}
+use Rattle.rules.specs.Records.{State, lastClock, pad}
 use Rattle.rules.specs.Moments.{Moved}
 use Rattle.rules.specs.Refusals.{Check, firstOf, clockChecks}
 use Rattle.rules.specs.Calls.{Call, addProgram, deliver, cancel, setClock, ask, list, nothing, Done, Outcome, clocked, does, checks, refusal, accepted, refused, lentBytes, lentList, call}

@@ -2,12 +2,11 @@
 use mathlib.Core.Path.{_≡_, refl, sym, ap, _∙_, subst, subst₂, fun-ext}
 use mathlib.Core.Logic.{inl, inr}
 use Prim.Native.Nat.{ℕ, _<_}
-use mathlib.Core.Bool.{Bool, true, false, cond, true≢false}
+use mathlib.Core.Bool.{true, false, cond, true≢false}
 use native.Mathlib.Omega.{arith}
 use mathlib.Core.List.{List, [], _∷_, _++_}
 use mathlib.Core.Option.{Option, none, some}
 use lib.Dec.{eqb, lit<}
-use lib.ListN.{length}
 use Rattle.rules.specs.declared.Event.{Event}
 use Rattle.rules.specs.Lists.{In}
 use Rattle.rules.specs.Records.{State, idOf, usable, has, cut, join, fresh, pad}
@@ -18,7 +17,7 @@ use Rattle.rules.specs.Moments.{entriesFrom, second, advance}
 use Rattle.rules.specs.Bytes.{big, flat, rowBytes}
 use Rattle.rules.specs.Sound.{outOfRange, malformed, sameEvent}
 use Rattle.rules.specs.Refusals.{find, late, programChecks, eventChecks, cancelChecks, clockChecks, askChecks, listChecks}
-use Rattle.rules.specs.Calls.{Call, bestDefault, holderIn, answerFor, does, checks, accepts, call, joined, written}
+use Rattle.rules.specs.Calls.{Call, bestDefault, holderIn, answerFor, does, checks, call, joined, written}
 use Rattle.rules.specs.History.{Added, Brought, History, noHistory, note, acceptedCalls, historyFrom, historyOf}
 use Rattle.rules.specs.Arrival.{SameArrivals, InTime, Cancellation, joinedRows}
 use Rattle.rules.specs.Sample.{event, one, two, three, four, five, plainly, otherwise, Missed, prompt, tardy, cancelledAt, uncancelled, another, redrawn, longer, shorter, ranked, Sample}
@@ -27,7 +26,7 @@ use Rattle.rules.specs.Marks.{same}
 use Rattle.rules.proofs.SoundState.{Sound}
 use Rattle.rules.proofs.SoundKept.{sound-fresh}
 use Rattle.rules.proofs.Jump.{jumps, nextMoment, idleFor}
-use Rattle.rules.proofs.Quick.{Acted, quickChecks, quickDoes, quickCall, call-quick, number-quick, sound-quick, padded}
+use Rattle.rules.proofs.Quick.{quickChecks, quickDoes, quickCall, call-quick, number-quick, sound-quick, padded}
 use Rattle.rules.proofs.Evaluated.{same-self}
 use Rattle.rules.proofs.Order.{arrival-order}
 

@@ -3,7 +3,7 @@ use mathlib.Core.Path.{_≡_, refl, sym, ap, _∙_, fun-ext}
 use Prim.Native.Nat.{ℕ}
 use mathlib.Core.Bool.{true}
 use mathlib.Core.List.{List}
-use Rattle.rules.specs.Records.{usable, has, cut, join, fresh, pad}
+use Rattle.rules.specs.Records.{usable, has, cut, join, fresh}
 use Rattle.rules.specs.Period.{drawnStart, effectiveEnd, effectiveStart}
 use Rattle.rules.specs.Holding.{key, better, claim, taken, heldAt, holdingAt}
 use Rattle.rules.specs.Rows.{codeAt, rowsWith, rowsFrom, rowsAt}

@@ -15,8 +15,8 @@ use Rattle.rules.specs.Period.{drawnStart, periodOf}
 use Rattle.rules.specs.Rows.{Sooner}
 use Rattle.rules.specs.Bytes.{bytes}
 use Rattle.rules.specs.Refusals.{firstOf}
-use Rattle.rules.specs.Calls.{Call, list, ask, Value, count, holder, Outcome, recordOf, defaultFor, bestDefault, checks, counted, call, run, joined}
-use Rattle.rules.specs.History.{Added, Brought, History, historyOf}
+use Rattle.rules.specs.Calls.{Call, list, ask, count, holder, Outcome, recordOf, defaultFor, bestDefault, checks, counted, call, run, joined}
+use Rattle.rules.specs.History.{Brought, History, historyOf}
 use Rattle.rules.specs.Schedules.{Timed, timed, programsOf, timesOf, seen, stateOf, rowsOf}
 
 -- the schedule after a list of calls

@@ -9,7 +9,7 @@ use Rattle.rules.specs.declared.Record.{Record}
 use Rattle.rules.specs.declared.Answer.{Answer}
 use Rattle.rules.specs.declared.Answer.the-variants.{Refused, Code, Count, Holder, Default, Nobody}
 use Rattle.rules.specs.Records.{fresh, pad}
-use Rattle.rules.specs.Calls.{Call, addProgram, deliver, cancel, setClock, ask, list, nothing, code, count, holder, default, nobody, numberOf, valueOf}
+use Rattle.rules.specs.Calls.{addProgram, deliver, cancel, setClock, ask, list, nothing, code, count, holder, default, nobody, numberOf, valueOf}
 use Rattle.rules.specs.Script.{valueNumbers, Step, scriptsHold, _answers_, _refused_}
 use Rattle.rules.specs.Marks.{same, replies}
 
