@@ -20,7 +20,7 @@ use Rattle.rules.specs.Refusals.{find, late, programChecks, eventChecks,
 use Rattle.rules.specs.Calls.{Call, bestDefault, holderIn, answerFor, does, checks, call, joined, written}
 use Rattle.rules.specs.History.{Added, Brought, History, noHistory, note, acceptedCalls, historyFrom, historyOf}
 use Rattle.rules.specs.Arrival.{SameArrivals, InTime, Cancellation, joinedRows}
-use Rattle.rules.specs.Sample.{event, one, two, three, four, five, plainly, otherwise, Missed, prompt, tardy, cancelledAt, uncancelled, another, redrawn, longer, shorter, ranked, Sample}
+use Rattle.rules.specs.Sample.{event, one, two, three, four, five, plainly, otherwise, Missed, prompt, tardy, cancelledBy, uncancelled, another, redrawn, longer, shorter, ranked, Sample}
 use Rattle.rules.specs.ScheduleTable.{historiesHold, historyTable}
 use Rattle.rules.specs.Marks.{same}
 use Rattle.rules.proofs.SoundState.{Sound}
@@ -95,7 +95,7 @@ unfolding historiesHold historyTable historyFrom note quickAccepted quickCall qu
 histories-evaluate = refl
 
 pub histories-hold : historiesHold historyOf historyTable ≡ true
-histories-hold = ap (λ brings. historiesHold brings historyTable) (fun-ext history-quick) ∙ histories-evaluate
+histories-hold = ap (λ see. historiesHold see historyTable) (fun-ext history-quick) ∙ histories-evaluate
 
 plainly-quick : quickHistory plainly ≡ history (other ∷ first ∷ []) 0 0 33 0 0
 unfolding plainly historyFrom note quickAccepted quickCall quickChecks quickDoes jumps nextMoment idleFor advance second entriesFrom rowsAt rowsFrom rowsWith codeAt holdingAt heldAt taken claim better key drawnStart effectiveEnd effectiveStart usable has cut join big flat rowBytes outOfRange malformed sameEvent find late programChecks eventChecks cancelChecks clockChecks askChecks listChecks bestDefault holderIn answerFor does checks
@@ -174,18 +174,18 @@ in-time-sample = record {
   rows = differ (prompt) (tardy) refl;
 }
 
-cancellation-clocks-sample : Missed (cancelledAt 9) (cancelledAt 10)
+cancellation-clocks-sample : Missed (cancelledBy 9) (cancelledBy 10)
 unfolding historyFrom note quickAccepted quickJoined quickCall quickChecks quickDoes jumps nextMoment idleFor advance second entriesFrom rowsAt rowsFrom rowsWith codeAt holdingAt heldAt taken claim better key drawnStart effectiveEnd effectiveStart usable has cut join big flat rowBytes outOfRange malformed sameEvent find late programChecks eventChecks cancelChecks clockChecks askChecks listChecks bestDefault holderIn answerFor does checks
 cancellation-clocks-sample = record {
-  premise = apart (cancelledAt 9) (cancelledAt 10) (small (brought one 0 (some 9) ∷ [])) (small (brought one 0 (some 10) ∷ [])) refl refl (λ s. other-clock (s .cancellations (cancelled 9) .0 (inl refl)));
-  rows = differ (cancelledAt 9) (cancelledAt 10) refl;
+  premise = apart (cancelledBy 9) (cancelledBy 10) (small (brought one 0 (some 9) ∷ [])) (small (brought one 0 (some 10) ∷ [])) refl refl (λ s. other-clock (s .cancellations (cancelled 9) .0 (inl refl)));
+  rows = differ (cancelledBy 9) (cancelledBy 10) refl;
 }
 
-cancellations-sample : Missed (cancelledAt 9) (uncancelled)
+cancellations-sample : Missed (cancelledBy 9) (uncancelled)
 unfolding historyFrom note quickAccepted quickJoined quickCall quickChecks quickDoes jumps nextMoment idleFor advance second entriesFrom rowsAt rowsFrom rowsWith codeAt holdingAt heldAt taken claim better key drawnStart effectiveEnd effectiveStart usable has cut join big flat rowBytes outOfRange malformed sameEvent find late programChecks eventChecks cancelChecks clockChecks askChecks listChecks bestDefault holderIn answerFor does checks
 cancellations-sample = record {
-  premise = apart (cancelledAt 9) (uncancelled) (small (brought one 0 (some 9) ∷ [])) (small (brought one 0 none ∷ [])) refl refl (λ s. s .cancellations (cancelled 9) .0 (inl refl));
-  rows = differ (cancelledAt 9) (uncancelled) refl;
+  premise = apart (cancelledBy 9) (uncancelled) (small (brought one 0 (some 9) ∷ [])) (small (brought one 0 none ∷ [])) refl refl (λ s. s .cancellations (cancelled 9) .0 (inl refl));
+  rows = differ (cancelledBy 9) (uncancelled) refl;
 }
 
 events-sample : Missed (uncancelled) (another)

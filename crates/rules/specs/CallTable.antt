@@ -38,16 +38,16 @@ abbrev reads : ℕ → ℕ → ℕ → List ℕ → ℕ → Step
 reads t room n rows rest = record { call = setClock t (replicate room 77); number = 0; value = count n; bytes = rows ++ replicate rest 77; records = [] }
 
 -- a held event: its effective start, held mask, cancelled mark
-abbrev held : Event → ℕ → ℕ → Bool → Record
-held e begins mask gone = record { entry = record { event = e; begins = begins; held = mask; cancelled = gone } }
+abbrev listedAs : Event → ℕ → ℕ → Bool → Record
+listedAs e begins mask gone = record { entry = record { event = e; begins = begins; held = mask; cancelled = gone } }
 
 -- a place of a lent list before it is written to
 abbrev place : Record
-place = held (event 99 9 99 99 99 99) 99 99 true
+place = listedAs (event 99 9 99 99 99 99) 99 99 true
 
 -- a listing into `room` places: how many records, and how many places stay as they were
-abbrev lists : ℕ → ℕ → List Record → ℕ → Step
-lists room n rs rest = record { call = list (replicate room place); number = 0; value = count n; bytes = []; records = rs ++ replicate rest place }
+abbrev listing : ℕ → ℕ → List Record → ℕ → Step
+listing room n rs rest = record { call = list (replicate room place); number = 0; value = count n; bytes = []; records = rs ++ replicate rest place }
 
 -- an event of two controls, and one that is better on the first of them
 abbrev wide : Event
@@ -71,12 +71,12 @@ codes =
     ∷ reads 5000 0 0 [] 0
     ∷ (cancel 2 answers code 0)
     ∷ reads 5050 18 1 (row 5050 1 2) 1
-    ∷ lists 3 2 (held narrow 5050 1 false ∷ held wide 5000 0 true ∷ []) 1
+    ∷ listing 3 2 (listedAs narrow 5050 1 false ∷ listedAs wide 5000 0 true ∷ []) 1
     ∷ (cancel 1 answers code 6)
-    ∷ lists 2 2 (held narrow 5050 0 true ∷ held wide 5000 0 true ∷ []) 0
+    ∷ listing 2 2 (listedAs narrow 5050 0 true ∷ listedAs wide 5000 0 true ∷ []) 0
     ∷ (list (place ∷ []) refused 13)
     ∷ reads 5100 1 0 [] 1
-    ∷ lists 1 1 (held narrow 5050 0 true ∷ []) 0
+    ∷ listing 1 1 (listedAs narrow 5050 0 true ∷ []) 0
     ∷ (cancel 2 refused 11)
     ∷ []
 
@@ -93,20 +93,20 @@ holders =
     ∷ reads 5049 17 1 (row 5000 2 2) 0
     ∷ (ask 0 answers holder 2)
     ∷ (ask 1 answers holder 2)
-    ∷ lists 4 2 (held narrow 5050 0 false ∷ held wide 5000 3 false ∷ []) 2
+    ∷ listing 4 2 (listedAs narrow 5050 0 false ∷ listedAs wide 5000 3 false ∷ []) 2
     ∷ reads 5050 20 1 (row 5050 1 2) 3
     ∷ (ask 0 answers holder 1)
     ∷ (ask 1 answers holder 2)
-    ∷ lists 2 2 (held narrow 5050 1 false ∷ held wide 5000 2 false ∷ []) 0
+    ∷ listing 2 2 (listedAs narrow 5050 1 false ∷ listedAs wide 5000 2 false ∷ []) 0
     ∷ (setClock 5150 (replicate 33 77) refused 13)
     ∷ reads 5150 34 2 (row 5100 2 3 ++ row 5150 1 3) 0
     ∷ (ask 0 answers default 1)
-    ∷ lists 1 0 [] 1
+    ∷ listing 1 0 [] 1
     ∷ []
 
 -- defaults of three programs: the lower primacy, of equal ones the smaller number, of those that carry the control
-abbrev defaults : List Step
-defaults =
+abbrev defaultsOf : List Step
+defaultsOf =
     (ask 0 answers nobody)
     ∷ (addProgram 1 65 0b10111 answers code 0)
     ∷ (ask 0 answers default 1)
@@ -142,8 +142,8 @@ moment =
     ∷ []
 
 -- a cancellation at 5000: the event holds that second, gives its 2 and nothing after; a worse event is kept out that second for good, one that starts a second later is not
-abbrev cancelled : List Step
-cancelled =
+abbrev cancelledOne : List Step
+cancelledOne =
     (addProgram 0 0 1 answers code 0)
     ∷ (deliver (event 9 0 1 0 5000 100) answers code 1)
     ∷ (deliver (event 8 0 1 0 5000 100) answers code 1)
@@ -154,27 +154,27 @@ cancelled =
     ∷ (ask 0 answers default 0)
     ∷ reads 5001 17 1 (row 5001 7 2) 0
     ∷ (ask 0 answers holder 7)
-    ∷ lists 3 3 (held (event 7 0 1 0 5001 100) 5001 1 false ∷ held (event 8 0 1 0 5000 100) 5000 0 false ∷ held (event 9 0 1 0 5000 100) 5000 0 true ∷ []) 0
+    ∷ listing 3 3 (listedAs (event 7 0 1 0 5001 100) 5001 1 false ∷ listedAs (event 8 0 1 0 5000 100) 5000 0 false ∷ listedAs (event 9 0 1 0 5000 100) 5000 0 true ∷ []) 0
     ∷ reads 5200 17 1 (row 5101 7 3) 0
     ∷ []
 
 -- an event first accepted after its start begins at the next second; cancelled, it is listed as it was but for its mask and its mark
-abbrev late : List Step
-late =
+abbrev afterStart : List Step
+afterStart =
     (addProgram 0 0 0 answers code 0)
     ∷ reads 5050 0 0 [] 0
     ∷ (deliver (event 3 0 1 0 5000 100) answers code 1)
-    ∷ lists 1 1 (held (event 3 0 1 0 5000 100) 5051 0 false ∷ []) 0
+    ∷ listing 1 1 (listedAs (event 3 0 1 0 5000 100) 5051 0 false ∷ []) 0
     ∷ (ask 0 answers nobody)
     ∷ reads 5051 17 1 (row 5051 3 2) 0
     ∷ (ask 0 answers holder 3)
     ∷ (cancel 3 answers code 6)
-    ∷ lists 1 1 (held (event 3 0 1 0 5000 100) 5051 0 true ∷ []) 0
+    ∷ listing 1 1 (listedAs (event 3 0 1 0 5000 100) 5051 0 true ∷ []) 0
     ∷ reads 5100 0 0 [] 0
     ∷ []
 
 unfoldable pub callTable : List (List Step)
-callTable = codes ∷ holders ∷ defaults ∷ moment ∷ cancelled ∷ late ∷ []
+callTable = codes ∷ holders ∷ defaultsOf ∷ moment ∷ cancelledOne ∷ afterStart ∷ []
 
 -- the number and the value of each answer
 abbrev answerNumbers : Answer → List ℕ

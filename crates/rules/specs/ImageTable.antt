@@ -39,8 +39,8 @@ rulesHold [] = true
 rulesHold (c ∷ cs) = agree (sound (c .schedule)) (c .kept) && rulesHold cs
 
 -- id, program, controls, creation time, start, duration, randomisations, draws
-abbrev drawn : ℕ → ℕ → ℕ → ℕ → ℕ → ℕ → ℕ → ℕ → ℕ → ℕ → Event
-drawn i program controls created start duration rs rd sd dd =
+abbrev event : ℕ → ℕ → ℕ → ℕ → ℕ → ℕ → ℕ → ℕ → ℕ → ℕ → Event
+event i program controls created start duration rs rd sd dd =
     record {
       id = record { value = i };
       program = program;
@@ -58,8 +58,8 @@ drawn i program controls created start duration rs rd sd dd =
 abbrev minus : ℕ → ℕ
 minus k = 65536 - k
 
-abbrev entry : Event → ℕ → ℕ → Bool → Entry
-entry e begins held gone = record { event = e; begins = begins; held = held; cancelled = gone }
+abbrev entryAs : Event → ℕ → ℕ → Bool → Entry
+entryAs e begins held gone = record { event = e; begins = begins; held = held; cancelled = gone }
 
 abbrev program : Bool → ℕ → ℕ → Program
 program added primacy defaults = record { added = added; primacy = primacy; defaults = defaults }
@@ -82,25 +82,25 @@ abbrev holds : List Entry → Schedule
 holds hs = schedule 5000 (length hs) noProgram hs
 
 -- one entry behind those in use
-abbrev unused : Entry → Schedule
-unused h = schedule 5000 0 noProgram (h ∷ [])
+abbrev behind : Entry → Schedule
+behind h = schedule 5000 0 noProgram (h ∷ [])
 
 -- an event of program 0, id 1, on control 0
-abbrev timed : ℕ → ℕ → ℕ → ℕ → Event
-timed start duration rs sd = drawn 1 0 1 0 start duration rs 0 sd 0
+abbrev ofTimes : ℕ → ℕ → ℕ → ℕ → Event
+ofTimes start duration rs sd = event 1 0 1 0 start duration rs 0 sd 0
 
 -- one on these controls, under this id, from 4900 to 5100
 abbrev plain : ℕ → ℕ → Event
-plain i controls = drawn i 0 controls 0 4900 200 0 0 0 0
+plain i controls = event i 0 controls 0 4900 200 0 0 0 0
 
 -- one that has begun and holds this mask
 abbrev begun : ℕ → ℕ → ℕ → Entry
-begun i controls held = entry (plain i controls) 4900 held false
+begun i controls held = entryAs (plain i controls) 4900 held false
 
 -- n entries with the ids from 1 on
-abbrev many : ℕ → List Entry
-many zero = []
-many (suc n) = many n ++ (begun (n + 1) 1 0 ∷ [])
+abbrev several : ℕ → List Entry
+several zero = []
+several (suc n) = several n ++ (begun (n + 1) 1 0 ∷ [])
 
 infix 70 _keeps_
 abbrev _keeps_ : Schedule → Bool → RuleCase
@@ -123,8 +123,8 @@ ruleTable =
     -- limits: the clock, the count
     ∷ good (schedule 9000000000 0 noProgram [])
     ∷ broken (schedule 9000000001 0 noProgram [])
-    ∷ good (holds (many 48))
-    ∷ broken (schedule 5000 49 noProgram (many 48))
+    ∷ good (holds (several 48))
+    ∷ broken (schedule 5000 49 noProgram (several 48))
     -- programs pass 5; an unused place is zero
     ∷ good (placed (program true 2 0))
     ∷ broken (placed (program true 3 0))
@@ -136,43 +136,43 @@ ruleTable =
     ∷ broken (placed (program false 1 0))
     ∷ broken (placed (program false 0 1))
     -- an unused event place is zero, in each of its fields
-    ∷ good (unused noEntry)
-    ∷ broken (unused (entry (drawn 1 0 0 0 0 0 0 0 0 0) 0 0 false))
-    ∷ broken (unused (entry (drawn 0 1 0 0 0 0 0 0 0 0) 0 0 false))
-    ∷ broken (unused (entry (drawn 0 0 1 0 0 0 0 0 0 0) 0 0 false))
-    ∷ broken (unused (entry (drawn 0 0 0 1 0 0 0 0 0 0) 0 0 false))
-    ∷ broken (unused (entry (drawn 0 0 0 0 1 0 0 0 0 0) 0 0 false))
-    ∷ broken (unused (entry (drawn 0 0 0 0 0 1 0 0 0 0) 0 0 false))
-    ∷ broken (unused (entry (drawn 0 0 0 0 0 0 1 0 0 0) 0 0 false))
-    ∷ broken (unused (entry (drawn 0 0 0 0 0 0 0 1 0 0) 0 0 false))
-    ∷ broken (unused (entry (drawn 0 0 0 0 0 0 0 0 1 0) 0 0 false))
-    ∷ broken (unused (entry (drawn 0 0 0 0 0 0 0 0 0 1) 0 0 false))
-    ∷ broken (unused (entry (drawn 0 0 0 0 0 0 0 0 0 0) 1 0 false))
-    ∷ broken (unused (entry (drawn 0 0 0 0 0 0 0 0 0 0) 0 1 false))
-    ∷ broken (unused (entry (drawn 0 0 0 0 0 0 0 0 0 0) 0 0 true))
-    ∷ broken (unused (begun 1 1 0))
-    ∷ broken (schedule 5000 1 noProgram (many 2))
-    ∷ broken (schedule 5000 2 noProgram (many 1))
+    ∷ good (behind noEntry)
+    ∷ broken (behind (entryAs (event 1 0 0 0 0 0 0 0 0 0) 0 0 false))
+    ∷ broken (behind (entryAs (event 0 1 0 0 0 0 0 0 0 0) 0 0 false))
+    ∷ broken (behind (entryAs (event 0 0 1 0 0 0 0 0 0 0) 0 0 false))
+    ∷ broken (behind (entryAs (event 0 0 0 1 0 0 0 0 0 0) 0 0 false))
+    ∷ broken (behind (entryAs (event 0 0 0 0 1 0 0 0 0 0) 0 0 false))
+    ∷ broken (behind (entryAs (event 0 0 0 0 0 1 0 0 0 0) 0 0 false))
+    ∷ broken (behind (entryAs (event 0 0 0 0 0 0 1 0 0 0) 0 0 false))
+    ∷ broken (behind (entryAs (event 0 0 0 0 0 0 0 1 0 0) 0 0 false))
+    ∷ broken (behind (entryAs (event 0 0 0 0 0 0 0 0 1 0) 0 0 false))
+    ∷ broken (behind (entryAs (event 0 0 0 0 0 0 0 0 0 1) 0 0 false))
+    ∷ broken (behind (entryAs (event 0 0 0 0 0 0 0 0 0 0) 1 0 false))
+    ∷ broken (behind (entryAs (event 0 0 0 0 0 0 0 0 0 0) 0 1 false))
+    ∷ broken (behind (entryAs (event 0 0 0 0 0 0 0 0 0 0) 0 0 true))
+    ∷ broken (behind (begun 1 1 0))
+    ∷ broken (schedule 5000 1 noProgram (several 2))
+    ∷ broken (schedule 5000 2 noProgram (several 1))
     -- ids ascend, those next to each other and all others
     ∷ good (holds (begun 1 1 0 ∷ begun 2 1 0 ∷ begun 3 1 0 ∷ []))
     ∷ broken (holds (begun 1 1 0 ∷ begun 1 1 0 ∷ []))
     ∷ broken (holds (begun 2 1 0 ∷ begun 1 1 0 ∷ []))
     ∷ broken (holds (begun 2 1 0 ∷ begun 3 1 0 ∷ begun 2 1 0 ∷ []))
     -- events pass 3 and 6: the last program, one that was not added, one that is none
-    ∷ good (schedule 5000 1 (program true 1 0) (entry (drawn 1 7 1 0 4900 200 0 0 0 0) 4900 1 false ∷ []))
-    ∷ broken (schedule 5000 1 noProgram (entry (drawn 1 7 1 0 4900 200 0 0 0 0) 4900 1 false ∷ []))
-    ∷ broken (schedule 5000 1 (program true 1 0) (entry (drawn 1 8 1 0 4900 200 0 0 0 0) 4900 1 false ∷ []))
+    ∷ good (schedule 5000 1 (program true 1 0) (entryAs (event 1 7 1 0 4900 200 0 0 0 0) 4900 1 false ∷ []))
+    ∷ broken (schedule 5000 1 noProgram (entryAs (event 1 7 1 0 4900 200 0 0 0 0) 4900 1 false ∷ []))
+    ∷ broken (schedule 5000 1 (program true 1 0) (entryAs (event 1 8 1 0 4900 200 0 0 0 0) 4900 1 false ∷ []))
     -- events pass 7
-    ∷ good (schedule 3600 1 noProgram (entry (timed 3600 1 0 0) 3600 1 false ∷ []))
-    ∷ broken (schedule 3599 1 noProgram (entry (timed 3599 2 0 0) 3599 1 false ∷ []))
-    ∷ broken (holds (entry (plain 1 0) 4900 0 false ∷ []))
-    ∷ broken (holds (entry (drawn 1 0 1 0 4900 200 0 3600 0 3601) 4900 1 false ∷ []))
+    ∷ good (schedule 3600 1 noProgram (entryAs (ofTimes 3600 1 0 0) 3600 1 false ∷ []))
+    ∷ broken (schedule 3599 1 noProgram (entryAs (ofTimes 3599 2 0 0) 3599 1 false ∷ []))
+    ∷ broken (holds (entryAs (plain 1 0) 4900 0 false ∷ []))
+    ∷ broken (holds (entryAs (event 1 0 1 0 4900 200 0 3600 0 3601) 4900 1 false ∷ []))
     -- the effective start: not before the drawn start, before the effective end; also one that no run leaves
-    ∷ good (schedule 0 1 noProgram (entry (timed 5000 200 100 50) 5050 0 false ∷ []))
-    ∷ broken (schedule 0 1 noProgram (entry (timed 5000 200 100 50) 5049 0 false ∷ []))
-    ∷ good (schedule 0 1 noProgram (entry (timed 5000 200 100 50) 5249 0 false ∷ []))
-    ∷ broken (schedule 0 1 noProgram (entry (timed 5000 200 100 50) 5250 0 false ∷ []))
-    ∷ good (schedule 0 1 noProgram (entry (timed 3600 1 (minus 3600) (minus 3600)) 0 1 false ∷ []))
+    ∷ good (schedule 0 1 noProgram (entryAs (ofTimes 5000 200 100 50) 5050 0 false ∷ []))
+    ∷ broken (schedule 0 1 noProgram (entryAs (ofTimes 5000 200 100 50) 5049 0 false ∷ []))
+    ∷ good (schedule 0 1 noProgram (entryAs (ofTimes 5000 200 100 50) 5249 0 false ∷ []))
+    ∷ broken (schedule 0 1 noProgram (entryAs (ofTimes 5000 200 100 50) 5250 0 false ∷ []))
+    ∷ good (schedule 0 1 noProgram (entryAs (ofTimes 3600 1 (minus 3600) (minus 3600)) 0 1 false ∷ []))
     -- the effective end is after the clock
     ∷ good (schedule 5099 1 noProgram (begun 1 1 1 ∷ []))
     ∷ broken (schedule 5100 1 noProgram (begun 1 1 1 ∷ []))
@@ -186,8 +186,8 @@ ruleTable =
     ∷ broken (schedule 4899 1 noProgram (begun 1 1 1 ∷ []))
     ∷ good (schedule 4899 1 noProgram (begun 1 1 0 ∷ []))
     -- and if the event is cancelled
-    ∷ good (holds (entry (plain 1 1) 4900 0 true ∷ []))
-    ∷ broken (holds (entry (plain 1 1) 4900 1 true ∷ []))
+    ∷ good (holds (entryAs (plain 1 1) 4900 0 true ∷ []))
+    ∷ broken (holds (entryAs (plain 1 1) 4900 1 true ∷ []))
     -- held masks share no bit; the better of two may hold nothing
     ∷ good (holds (begun 1 7 5 ∷ begun 2 7 2 ∷ []))
     ∷ broken (holds (begun 1 7 5 ∷ begun 2 7 3 ∷ []))
@@ -248,7 +248,7 @@ numberTable =
     ∷ list [] on beyond gets 2
     -- a refused call has changed nothing
     ∷ addProgram 0 1 9 on lastSecond gets 4
-    ∷ deliver (drawn 1 0 7 0 4900 200 0 0 0 0) on (holds (begun 1 1 1 ∷ [])) gets 8
+    ∷ deliver (event 1 0 7 0 4900 200 0 0 0 0) on (holds (begun 1 1 1 ∷ [])) gets 8
     ∷ []
 
 -- THE BYTES
@@ -258,10 +258,10 @@ abbrev layout : Schedule
 layout =
     raw 0x0102030405060708 0x09
     (program true 0x0A 0x0B0C0D0E ∷ program false 0x0F 0x10111213 ∷ (replicate 5 noProgram ++ (program true 0x14 0x15161718 ∷ [])))
-    (entry (drawn 0x2122232425262728 0x29 0x2A2B2C2D 0x2E2F3031 0x32333435 0x36373839 0x3A3B 0x3C3D 0x3E3F 0x4041) 0x4243444546474849 0x4A4B4C4D true
-    ∷ entry (drawn 0x5152535455565758 0x59 0x5A5B5C5D 0x5E5F6061 0x62636465 0x66676869 0x6A6B 0x6C6D 0x6E6F 0x7071) 0x7273747576777879 0x7A7B7C7D false
+    (entryAs (event 0x2122232425262728 0x29 0x2A2B2C2D 0x2E2F3031 0x32333435 0x36373839 0x3A3B 0x3C3D 0x3E3F 0x4041) 0x4243444546474849 0x4A4B4C4D true
+    ∷ entryAs (event 0x5152535455565758 0x59 0x5A5B5C5D 0x5E5F6061 0x62636465 0x66676869 0x6A6B 0x6C6D 0x6E6F 0x7071) 0x7273747576777879 0x7A7B7C7D false
     ∷ (replicate 45 noEntry
-    ++ (entry (drawn 0x8182838485868788 0x89 0x8A8B8C8D 0x8E8F9091 0x92939495 0x96979899 0x9A9B 0x9C9D 0x9E9F 0xA0A1) 0xA2A3A4A5A6A7A8A9 0xAAABACAD true ∷ [])))
+    ++ (entryAs (event 0x8182838485868788 0x89 0x8A8B8C8D 0x8E8F9091 0x92939495 0x96979899 0x9A9B 0x9C9D 0x9E9F 0xA0A1) 0xA2A3A4A5A6A7A8A9 0xAAABACAD true ∷ [])))
 
 -- n numbers one after the other, from x on
 abbrev from : ℕ → ℕ → List ℕ
@@ -304,8 +304,8 @@ formsHold [] = true
 formsHold (c ∷ cs) = agree (formed (c .bytes)) (c .formed) && formsHold cs
 
 -- an image of zeros with one other byte
-abbrev mark : ℕ → ℕ → List ℕ
-mark at b = overAt at (b ∷ []) (replicate 2265 0)
+abbrev zerosBut : ℕ → ℕ → List ℕ
+zerosBut at b = overAt at (b ∷ []) (replicate 2265 0)
 
 abbrev forms : Bool → List ℕ → FormCase
 forms b l = record { bytes = l; formed = b }
@@ -318,31 +318,31 @@ formTable =
     ∷ forms true (replicate 2265 0)
     ∷ forms false (replicate 2266 0)
     -- the mark of the first and the last program; of the first, the second and the last event
-    ∷ forms true (mark 9 1)
-    ∷ forms false (mark 9 2)
-    ∷ forms true (mark 51 1)
-    ∷ forms false (mark 51 2)
-    ∷ forms true (mark 102 1)
-    ∷ forms false (mark 102 2)
-    ∷ forms false (mark 148 2)
-    ∷ forms true (mark 2264 1)
-    ∷ forms false (mark 2264 2)
+    ∷ forms true (zerosBut 9 1)
+    ∷ forms false (zerosBut 9 2)
+    ∷ forms true (zerosBut 51 1)
+    ∷ forms false (zerosBut 51 2)
+    ∷ forms true (zerosBut 102 1)
+    ∷ forms false (zerosBut 102 2)
+    ∷ forms false (zerosBut 148 2)
+    ∷ forms true (zerosBut 2264 1)
+    ∷ forms false (zerosBut 2264 2)
     -- the bytes next to them are no marks
-    ∷ forms true (mark 8 2)
-    ∷ forms true (mark 10 2)
-    ∷ forms true (mark 50 2)
-    ∷ forms true (mark 52 2)
-    ∷ forms true (mark 101 2)
-    ∷ forms true (mark 103 2)
-    ∷ forms true (mark 2263 2)
+    ∷ forms true (zerosBut 8 2)
+    ∷ forms true (zerosBut 10 2)
+    ∷ forms true (zerosBut 50 2)
+    ∷ forms true (zerosBut 52 2)
+    ∷ forms true (zerosBut 101 2)
+    ∷ forms true (zerosBut 103 2)
+    ∷ forms true (zerosBut 2263 2)
     ∷ []
 
 -- an image keeps both: its length and marks, and the rules. The first has the wrong length, the others a count of 49 and a clock beyond the last reading.
 unfoldable pub refusedImages : Bool
 refusedImages =
     not (imaged (replicate 2264 0))
-    && not (imaged (mark 8 49))
-    && not (imaged (mark 0 1))
+    && not (imaged (zerosBut 8 49))
+    && not (imaged (zerosBut 0 1))
 
 pub record ImageTables : Type 0 where
   -- each rule is kept by one and broken by one

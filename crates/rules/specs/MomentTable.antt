@@ -9,7 +9,7 @@ use Rattle.rules.specs.declared.Program.{Program}
 use Rattle.rules.specs.Records.{State, noProgram}
 use Rattle.rules.specs.Moments.{passed}
 use Rattle.rules.specs.Script.{entriesNumbers}
-use Rattle.rules.specs.ScheduleTable.{rowNumbers, event, entry}
+use Rattle.rules.specs.ScheduleTable.{rowNumbers, event, entryAs}
 use Rattle.rules.specs.Marks.{same}
 
 -- a clock and what is held then; a reading; the rows up to it, and what is held after it
@@ -41,11 +41,11 @@ case t hs u rs ks = record { clock = t; before = hs; reading = u; rows = rs; aft
 
 -- with this id, on control 0: 2 to 6 with the effective start and the mask given
 abbrev lesser : ℕ → ℕ → ℕ → Entry
-lesser i begins mask = entry (event i 0 1 2 4) begins mask false
+lesser i begins mask = entryAs (event i 0 1 2 4) begins mask false
 
 -- the better, 2 to 5
 abbrev greater : ℕ → ℕ → Entry
-greater begins mask = entry (event 9 7 1 2 3) begins mask false
+greater begins mask = entryAs (event 9 7 1 2 3) begins mask false
 
 unfoldable pub momentTable : List MomentCase
 momentTable =
@@ -62,5 +62,5 @@ momentTable =
     ∷ case 3 (lesser 1 2 0 ∷ greater 2 1 ∷ []) 6 (5 ∷ 9 ∷ 3 ∷ []) []
     -- an effective start beyond the next second; a cancelled event neither starts nor ends nor keeps another out
     ∷ case 3 (lesser 1 5 0 ∷ []) 6 (5 ∷ 1 ∷ 2 ∷ 6 ∷ 1 ∷ 3 ∷ []) []
-    ∷ case 3 (lesser 1 4 0 ∷ entry (event 9 7 1 2 3) 4 0 true ∷ []) 6 (4 ∷ 1 ∷ 2 ∷ 6 ∷ 1 ∷ 3 ∷ []) []
+    ∷ case 3 (lesser 1 4 0 ∷ entryAs (event 9 7 1 2 3) 4 0 true ∷ []) 6 (4 ∷ 1 ∷ 2 ∷ 6 ∷ 1 ∷ 3 ∷ []) []
     ∷ []

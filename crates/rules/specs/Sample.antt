@@ -83,8 +83,8 @@ abbrev pub tardy : List Call
 tardy = with (setClock 10 room ∷ deliver one ∷ [])
 
 -- cancelled before its start, a second later, never
-abbrev pub cancelledAt : ℕ → List Call
-cancelledAt t = with (deliver one ∷ setClock t room ∷ cancel 1 ∷ [])
+abbrev pub cancelledBy : ℕ → List Call
+cancelledBy t = with (deliver one ∷ setClock t room ∷ cancel 1 ∷ [])
 
 abbrev pub uncancelled : List Call
 uncancelled = with (deliver one ∷ [])
@@ -118,8 +118,8 @@ pub record Sample : Type 0 where
   pub results : SameResults plainly otherwise
   -- each part of the premise is needed: receipt before the drawn start, cancellations and their clocks, events with every field, programs, the last reading
   pub in-time : Missed prompt tardy
-  pub cancellation-clocks : Missed (cancelledAt 9) (cancelledAt 10)
-  pub cancellations : Missed (cancelledAt 9) uncancelled
+  pub cancellation-clocks : Missed (cancelledBy 9) (cancelledBy 10)
+  pub cancellations : Missed (cancelledBy 9) uncancelled
   pub events : Missed uncancelled another
   pub fields : Missed uncancelled redrawn
   pub programs : Missed (ranked 1 2) (ranked 2 1)

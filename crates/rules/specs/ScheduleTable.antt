@@ -66,8 +66,8 @@ at receipt e = record { event = e; receipt = receipt; cancelled = none }
 abbrev until : ℕ → Event → Brought
 until k e = record { event = e; receipt = 0; cancelled = some k }
 
-abbrev pub entry : Event → ℕ → ℕ → Bool → Entry
-entry e begins mask gone = record { event = e; begins = begins; held = mask; cancelled = gone }
+abbrev pub entryAs : Event → ℕ → ℕ → Bool → Entry
+entryAs e begins mask gone = record { event = e; begins = begins; held = mask; cancelled = gone }
 
 abbrev case : List Brought → ℕ → List ℕ → List Entry → ScheduleCase
 case bs t rs hs = record { brought = bs; last = t; rows = rs; held = hs }
@@ -96,31 +96,31 @@ worst = event 2 0 1 4 2
 unfoldable pub scheduleTable : List ScheduleCase
 scheduleTable =
     -- nothing yet; a start; a control lost to a better event and not got back; the end
-    case pair 0 [] (entry wide 2 0 false ∷ entry narrow 3 0 false ∷ [])
-    ∷ case pair 1 [] (entry wide 2 0 false ∷ entry narrow 3 0 false ∷ [])
-    ∷ case pair 2 (2 ∷ 1 ∷ 2 ∷ []) (entry wide 2 3 false ∷ entry narrow 3 0 false ∷ [])
-    ∷ case pair 3 (2 ∷ 1 ∷ 2 ∷ 3 ∷ 2 ∷ 2 ∷ []) (entry wide 2 2 false ∷ entry narrow 3 1 false ∷ [])
-    ∷ case pair 4 (2 ∷ 1 ∷ 2 ∷ 3 ∷ 2 ∷ 2 ∷ 4 ∷ 2 ∷ 3 ∷ []) (entry wide 2 2 false ∷ [])
-    ∷ case pair 5 (2 ∷ 1 ∷ 2 ∷ 3 ∷ 2 ∷ 2 ∷ 4 ∷ 2 ∷ 3 ∷ []) (entry wide 2 2 false ∷ [])
+    case pair 0 [] (entryAs wide 2 0 false ∷ entryAs narrow 3 0 false ∷ [])
+    ∷ case pair 1 [] (entryAs wide 2 0 false ∷ entryAs narrow 3 0 false ∷ [])
+    ∷ case pair 2 (2 ∷ 1 ∷ 2 ∷ []) (entryAs wide 2 3 false ∷ entryAs narrow 3 0 false ∷ [])
+    ∷ case pair 3 (2 ∷ 1 ∷ 2 ∷ 3 ∷ 2 ∷ 2 ∷ []) (entryAs wide 2 2 false ∷ entryAs narrow 3 1 false ∷ [])
+    ∷ case pair 4 (2 ∷ 1 ∷ 2 ∷ 3 ∷ 2 ∷ 2 ∷ 4 ∷ 2 ∷ 3 ∷ []) (entryAs wide 2 2 false ∷ [])
+    ∷ case pair 5 (2 ∷ 1 ∷ 2 ∷ 3 ∷ 2 ∷ 2 ∷ 4 ∷ 2 ∷ 3 ∷ []) (entryAs wide 2 2 false ∷ [])
     ∷ case pair 6 (2 ∷ 1 ∷ 2 ∷ 3 ∷ 2 ∷ 2 ∷ 4 ∷ 2 ∷ 3 ∷ 6 ∷ 1 ∷ 3 ∷ []) []
     -- cancelled at 3: it holds at 3, so that `next` gets nothing; after the call it holds nothing, gives no 3, and `worst` starts at 4
-    ∷ case (at 0 next ∷ at 0 worst ∷ until 3 best ∷ []) 3 (2 ∷ 3 ∷ 2 ∷ 3 ∷ 1 ∷ 7 ∷ []) (entry next 3 0 false ∷ entry worst 4 0 false ∷ entry best 2 0 true ∷ [])
-    ∷ case (at 0 next ∷ at 0 worst ∷ until 3 best ∷ []) 4 (2 ∷ 3 ∷ 2 ∷ 3 ∷ 1 ∷ 7 ∷ 4 ∷ 2 ∷ 2 ∷ []) (entry next 3 0 false ∷ entry worst 4 1 false ∷ entry best 2 0 true ∷ [])
+    ∷ case (at 0 next ∷ at 0 worst ∷ until 3 best ∷ []) 3 (2 ∷ 3 ∷ 2 ∷ 3 ∷ 1 ∷ 7 ∷ []) (entryAs next 3 0 false ∷ entryAs worst 4 0 false ∷ entryAs best 2 0 true ∷ [])
+    ∷ case (at 0 next ∷ at 0 worst ∷ until 3 best ∷ []) 4 (2 ∷ 3 ∷ 2 ∷ 3 ∷ 1 ∷ 7 ∷ 4 ∷ 2 ∷ 2 ∷ []) (entryAs next 3 0 false ∷ entryAs worst 4 1 false ∷ entryAs best 2 0 true ∷ [])
     ∷ case (at 0 next ∷ at 0 worst ∷ until 3 best ∷ []) 6 (2 ∷ 3 ∷ 2 ∷ 3 ∷ 1 ∷ 7 ∷ 4 ∷ 2 ∷ 2 ∷ 6 ∷ 2 ∷ 3 ∷ []) []
     -- cancelled at 2, its start: it holds that second alone. At 1: never
-    ∷ case (at 0 next ∷ until 2 best ∷ []) 3 (2 ∷ 3 ∷ 2 ∷ 3 ∷ 1 ∷ 2 ∷ []) (entry next 3 1 false ∷ entry best 2 0 true ∷ [])
-    ∷ case (until 1 best ∷ []) 3 [] (entry best 2 0 true ∷ [])
+    ∷ case (at 0 next ∷ until 2 best ∷ []) 3 (2 ∷ 3 ∷ 2 ∷ 3 ∷ 1 ∷ 2 ∷ []) (entryAs next 3 1 false ∷ entryAs best 2 0 true ∷ [])
+    ∷ case (until 1 best ∷ []) 3 [] (entryAs best 2 0 true ∷ [])
     -- a cancellation that is not yet
-    ∷ case (until 3 best ∷ []) 2 (2 ∷ 3 ∷ 2 ∷ []) (entry best 2 1 false ∷ [])
+    ∷ case (until 3 best ∷ []) 2 (2 ∷ 3 ∷ 2 ∷ []) (entryAs best 2 1 false ∷ [])
     -- first accepted at its start, and after it: the next second
-    ∷ case (at 2 best ∷ []) 3 (3 ∷ 3 ∷ 2 ∷ []) (entry best 3 1 false ∷ [])
-    ∷ case (at 3 best ∷ []) 3 [] (entry best 4 0 false ∷ [])
+    ∷ case (at 2 best ∷ []) 3 (3 ∷ 3 ∷ 2 ∷ []) (entryAs best 3 1 false ∷ [])
+    ∷ case (at 3 best ∷ []) 3 [] (entryAs best 4 0 false ∷ [])
     -- an id used again after its event ended
-    ∷ case (at 0 (event 1 0 1 1 1) ∷ at 2 (event 1 0 1 3 2) ∷ []) 4 (1 ∷ 1 ∷ 2 ∷ 2 ∷ 1 ∷ 3 ∷ 3 ∷ 1 ∷ 2 ∷ []) (entry (event 1 0 1 3 2) 3 1 false ∷ [])
+    ∷ case (at 0 (event 1 0 1 1 1) ∷ at 2 (event 1 0 1 3 2) ∷ []) 4 (1 ∷ 1 ∷ 2 ∷ 2 ∷ 1 ∷ 3 ∷ 3 ∷ 1 ∷ 2 ∷ []) (entryAs (event 1 0 1 3 2) 3 1 false ∷ [])
     -- one moment, 3: 4 ends, 2 loses its only control to 5, 3 gets none, 1 and 5 start
     ∷ case (at 0 (event 1 0 8 3 2) ∷ at 0 (event 2 0 1 1 4) ∷ at 0 (event 3 0 1 3 2) ∷ at 0 (event 4 0 2 2 1) ∷ at 0 (event 5 7 1 3 2) ∷ []) 3
     (1 ∷ 2 ∷ 2 ∷ 2 ∷ 4 ∷ 2 ∷ 3 ∷ 4 ∷ 3 ∷ 3 ∷ 2 ∷ 7 ∷ 3 ∷ 3 ∷ 7 ∷ 3 ∷ 1 ∷ 2 ∷ 3 ∷ 5 ∷ 2 ∷ [])
-    (entry (event 1 0 8 3 2) 3 8 false ∷ entry (event 2 0 1 1 4) 1 0 false ∷ entry (event 3 0 1 3 2) 3 0 false ∷ entry (event 5 7 1 3 2) 3 1 false ∷ [])
+    (entryAs (event 1 0 8 3 2) 3 8 false ∷ entryAs (event 2 0 1 1 4) 1 0 false ∷ entryAs (event 3 0 1 3 2) 3 0 false ∷ entryAs (event 5 7 1 3 2) 3 1 false ∷ [])
     ∷ []
 
 -- What a list brings.
@@ -146,8 +146,8 @@ pub record HistoryCase : Type 0 where
   pub history : History
 
 unfoldable pub historiesHold : (List Call → History) → List HistoryCase → Bool
-historiesHold brings [] = true
-historiesHold brings (c ∷ cs) = same (historyNumbers (brings (c .calls))) (historyNumbers (c .history)) && historiesHold brings cs
+historiesHold see [] = true
+historiesHold see (c ∷ cs) = same (historyNumbers (see (c .calls))) (historyNumbers (c .history)) && historiesHold see cs
 
 -- programs, events, last reading
 abbrev brings : List Call → List Added → List Brought → ℕ → HistoryCase
