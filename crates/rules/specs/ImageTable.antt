@@ -330,8 +330,10 @@ formTable =
     -- the bytes next to them are no marks
     ∷ forms true (zerosBut 8 2)
     ∷ forms true (zerosBut 10 2)
+    ∷ forms true (zerosBut 16 2)
     ∷ forms true (zerosBut 50 2)
     ∷ forms true (zerosBut 52 2)
+    ∷ forms true (zerosBut 57 2)
     ∷ forms true (zerosBut 101 2)
     ∷ forms true (zerosBut 103 2)
     ∷ forms true (zerosBut 2263 2)
