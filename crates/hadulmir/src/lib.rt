@@ -1,6 +1,6 @@
-// The C face: every operation on an image as bytes. It answers, and leaves the image, as the same call by value does: it loads the image, makes the call and
-// stores what the call left. A question stores nothing, since an accepted image is that of its schedule; a listing is read off the accepted image and makes no call. A number that is
-// returned is an answer, or the two's complement of a refusal's negative; a refused operation leaves every byte.
+// The C face: every operation on an image as bytes. It answers, and leaves the image, as the same call by value does: it loads the image, makes the call
+// and stores what the call left. A question stores nothing, since an accepted image is that of its schedule; a listing is read off the accepted image, and
+// makes no call. A number that is returned is an answer, or the two's complement of a refusal's negative; a refused operation leaves every byte.
 ghost use mathlib.Core.Path.{_≡_};
 ghost use mathlib.Core.List.{[]};
 ghost use Rattle.rules.specs.Face.{addsProgram, delivers, cancels, setsClock, asks, lists, face, faceFresh};

@@ -7,9 +7,10 @@ use lib.ListN.{replicate}
 use Rattle.rules.specs.declared.Entry.{Entry}
 use Rattle.rules.specs.declared.Program.{Program}
 use Rattle.rules.specs.Records.{State, noProgram}
+use Rattle.rules.specs.Rows.{Row}
 use Rattle.rules.specs.Moments.{passed}
 use Rattle.rules.specs.Script.{entriesNumbers}
-use Rattle.rules.specs.ScheduleTable.{rowNumbers, event, entryAs}
+use Rattle.rules.specs.ScheduleTable.{rowNumbers, event, entryAs, row}
 use Rattle.rules.specs.Marks.{same}
 
 -- a clock and what is held then; a reading; the rows up to it, and what is held after it
@@ -17,7 +18,7 @@ pub record MomentCase : Type 0 where
   pub clock : ℕ
   pub before : List Entry
   pub reading : ℕ
-  pub rows : List ℕ
+  pub rows : List Row
   pub after : List Entry
 
 -- program 0 has primacy 1, program 7 primacy 0
@@ -32,11 +33,11 @@ momentsHold [] = true
 momentsHold (c ∷ cs) =
     let m = passed (stateFor c) (c .reading) in
     eqb (m .state .clock) (c .reading)
-    && same (rowNumbers (m .rows)) (c .rows)
+    && same (rowNumbers (m .rows)) (rowNumbers (c .rows))
     && same (entriesNumbers (m .state .entries)) (entriesNumbers (c .after))
     && momentsHold cs
 
-abbrev case : ℕ → List Entry → ℕ → List ℕ → List Entry → MomentCase
+abbrev case : ℕ → List Entry → ℕ → List Row → List Entry → MomentCase
 case t hs u rs ks = record { clock = t; before = hs; reading = u; rows = rs; after = ks }
 
 -- with this id, on control 0: 2 to 6 with the effective start and the mask given
@@ -52,15 +53,15 @@ momentTable =
     -- the same reading; every second up to the last: a start and an end in one reading
     case 3 (lesser 1 2 1 ∷ []) 3 [] (lesser 1 2 1 ∷ [])
     ∷ case 0 (lesser 1 2 0 ∷ []) 1 [] (lesser 1 2 0 ∷ [])
-    ∷ case 0 (lesser 1 2 0 ∷ []) 2 (2 ∷ 1 ∷ 2 ∷ []) (lesser 1 2 1 ∷ [])
-    ∷ case 0 (lesser 1 2 0 ∷ []) 5 (2 ∷ 1 ∷ 2 ∷ []) (lesser 1 2 1 ∷ [])
-    ∷ case 0 (lesser 1 2 0 ∷ []) 7 (2 ∷ 1 ∷ 2 ∷ 6 ∷ 1 ∷ 3 ∷ []) []
+    ∷ case 0 (lesser 1 2 0 ∷ []) 2 (row 2 1 2 ∷ []) (lesser 1 2 1 ∷ [])
+    ∷ case 0 (lesser 1 2 0 ∷ []) 5 (row 2 1 2 ∷ []) (lesser 1 2 1 ∷ [])
+    ∷ case 0 (lesser 1 2 0 ∷ []) 7 (row 2 1 2 ∷ row 6 1 3 ∷ []) []
     -- what is held at the clock can be lost at the next second, and then gives 7
-    ∷ case 3 (lesser 1 2 1 ∷ greater 4 0 ∷ []) 4 (4 ∷ 1 ∷ 7 ∷ 4 ∷ 9 ∷ 2 ∷ []) (lesser 1 2 0 ∷ greater 4 1 ∷ [])
+    ∷ case 3 (lesser 1 2 1 ∷ greater 4 0 ∷ []) 4 (row 4 1 7 ∷ row 4 9 2 ∷ []) (lesser 1 2 0 ∷ greater 4 1 ∷ [])
     -- a started event gains nothing: not the better one that holds nothing, and not the other when that one ends
     ∷ case 3 (lesser 1 2 1 ∷ greater 2 0 ∷ []) 5 [] (lesser 1 2 1 ∷ [])
-    ∷ case 3 (lesser 1 2 0 ∷ greater 2 1 ∷ []) 6 (5 ∷ 9 ∷ 3 ∷ []) []
+    ∷ case 3 (lesser 1 2 0 ∷ greater 2 1 ∷ []) 6 (row 5 9 3 ∷ []) []
     -- an effective start beyond the next second; a cancelled event neither starts nor ends nor keeps another out
-    ∷ case 3 (lesser 1 5 0 ∷ []) 6 (5 ∷ 1 ∷ 2 ∷ 6 ∷ 1 ∷ 3 ∷ []) []
-    ∷ case 3 (lesser 1 4 0 ∷ entryAs (event 9 7 1 2 3) 4 0 true ∷ []) 6 (4 ∷ 1 ∷ 2 ∷ 6 ∷ 1 ∷ 3 ∷ []) []
+    ∷ case 3 (lesser 1 5 0 ∷ []) 6 (row 5 1 2 ∷ row 6 1 3 ∷ []) []
+    ∷ case 3 (lesser 1 4 0 ∷ entryAs (event 9 7 1 2 3) 4 0 true ∷ []) 6 (row 4 1 2 ∷ row 6 1 3 ∷ []) []
     ∷ []

@@ -52,15 +52,16 @@ room = replicate 136 7
 
 unfoldable pub plainly : List Call
 plainly =
-    addProgram 0 1 1 ∷ addProgram 1 2 0 ∷ deliver one ∷ deliver two ∷ deliver four ∷ deliver five ∷ setClock 12 room ∷ cancel 1 ∷ setClock 11 room ∷ setClock 33 room ∷ deliver three ∷ setClock 42 room ∷ []
+    addProgram 0 1 1 ∷ addProgram 1 2 0 ∷ deliver one ∷ deliver two ∷ deliver four ∷ deliver five ∷ setClock 12 room ∷ cancel 1
+    ∷ setClock 11 room ∷ setClock 33 room ∷ deliver three ∷ setClock 42 room ∷ []
 
--- programs and events in another order, each event at the last clock that is in time, an id that is not held, repeats of a program, of events and of a cancellation, short
--- buffers and lists
+-- programs and events in another order, each event at the last clock that is in time; an id that is not held; repeats of a program, of events and of a
+-- cancellation; short buffers and lists
 unfoldable pub otherwise : List Call
 otherwise =
-    cancel 9 ∷ addProgram 1 2 0 ∷ setClock 5 [] ∷ addProgram 0 1 1 ∷ setClock 9 room ∷ ask 0 ∷ deliver one ∷ addProgram 0 1 1 ∷ setClock 11 [] ∷ setClock 11 room ∷ deliver five ∷ deliver one
-    ∷ setClock 12 room ∷ cancel 1 ∷ setClock 14 room ∷ cancel 1 ∷ deliver two ∷ setClock 15 room ∷ deliver four ∷ deliver one ∷ setClock 39 room ∷ deliver three ∷ list []
-    ∷ setClock 42 room ∷ []
+    cancel 9 ∷ addProgram 1 2 0 ∷ setClock 5 [] ∷ addProgram 0 1 1 ∷ setClock 9 room ∷ ask 0 ∷ deliver one ∷ addProgram 0 1 1 ∷ setClock 11 []
+    ∷ setClock 11 room ∷ deliver five ∷ deliver one ∷ setClock 12 room ∷ cancel 1 ∷ setClock 14 room ∷ cancel 1 ∷ deliver two ∷ setClock 15 room
+    ∷ deliver four ∷ deliver one ∷ setClock 39 room ∷ deliver three ∷ list [] ∷ setClock 42 room ∷ []
 
 abbrev row : ℕ → ℕ → ℕ → Row
 row t i k = record { time = t; id = i; code = k }

@@ -18,7 +18,7 @@ use Rattle.rules.specs.Marks.{same}
 pub record ScheduleCase : Type 0 where
   pub brought : List Brought
   pub last : ℕ
-  pub rows : List ℕ
+  pub rows : List Row
   pub held : List Entry
 
 -- program 0 has primacy 1, program 7 primacy 0
@@ -38,7 +38,7 @@ rowNumbers (r ∷ rs) = r .time ∷ r .id ∷ r .code ∷ rowNumbers rs
 unfoldable pub schedulesHold : List ScheduleCase → Bool
 schedulesHold [] = true
 schedulesHold (c ∷ cs) =
-    same (rowNumbers (rowsOf (historyFor c))) (c .rows)
+    same (rowNumbers (rowsOf (historyFor c))) (rowNumbers (c .rows))
     && same (entriesNumbers (stateOf (historyFor c) .entries)) (entriesNumbers (c .held))
     && schedulesHold cs
 
@@ -69,7 +69,10 @@ until k e = record { event = e; receipt = 0; cancelled = some k }
 abbrev pub entryAs : Event → ℕ → ℕ → Bool → Entry
 entryAs e begins mask gone = record { event = e; begins = begins; held = mask; cancelled = gone }
 
-abbrev case : List Brought → ℕ → List ℕ → List Entry → ScheduleCase
+abbrev pub row : ℕ → ℕ → ℕ → Row
+row t i k = record { time = t; id = i; code = k }
+
+abbrev case : List Brought → ℕ → List Row → List Entry → ScheduleCase
 case bs t rs hs = record { brought = bs; last = t; rows = rs; held = hs }
 
 -- 2 to 6 on controls 0 and 1
@@ -93,33 +96,36 @@ next = event 1 0 1 3 3
 abbrev worst : Event
 worst = event 2 0 1 4 2
 
+abbrev three : List Brought
+three = at 0 next ∷ at 0 worst ∷ until 3 best ∷ []
+
 unfoldable pub scheduleTable : List ScheduleCase
 scheduleTable =
     -- nothing yet; a start; a control lost to a better event and not got back; the end
     case pair 0 [] (entryAs wide 2 0 false ∷ entryAs narrow 3 0 false ∷ [])
     ∷ case pair 1 [] (entryAs wide 2 0 false ∷ entryAs narrow 3 0 false ∷ [])
-    ∷ case pair 2 (2 ∷ 1 ∷ 2 ∷ []) (entryAs wide 2 3 false ∷ entryAs narrow 3 0 false ∷ [])
-    ∷ case pair 3 (2 ∷ 1 ∷ 2 ∷ 3 ∷ 2 ∷ 2 ∷ []) (entryAs wide 2 2 false ∷ entryAs narrow 3 1 false ∷ [])
-    ∷ case pair 4 (2 ∷ 1 ∷ 2 ∷ 3 ∷ 2 ∷ 2 ∷ 4 ∷ 2 ∷ 3 ∷ []) (entryAs wide 2 2 false ∷ [])
-    ∷ case pair 5 (2 ∷ 1 ∷ 2 ∷ 3 ∷ 2 ∷ 2 ∷ 4 ∷ 2 ∷ 3 ∷ []) (entryAs wide 2 2 false ∷ [])
-    ∷ case pair 6 (2 ∷ 1 ∷ 2 ∷ 3 ∷ 2 ∷ 2 ∷ 4 ∷ 2 ∷ 3 ∷ 6 ∷ 1 ∷ 3 ∷ []) []
+    ∷ case pair 2 (row 2 1 2 ∷ []) (entryAs wide 2 3 false ∷ entryAs narrow 3 0 false ∷ [])
+    ∷ case pair 3 (row 2 1 2 ∷ row 3 2 2 ∷ []) (entryAs wide 2 2 false ∷ entryAs narrow 3 1 false ∷ [])
+    ∷ case pair 4 (row 2 1 2 ∷ row 3 2 2 ∷ row 4 2 3 ∷ []) (entryAs wide 2 2 false ∷ [])
+    ∷ case pair 5 (row 2 1 2 ∷ row 3 2 2 ∷ row 4 2 3 ∷ []) (entryAs wide 2 2 false ∷ [])
+    ∷ case pair 6 (row 2 1 2 ∷ row 3 2 2 ∷ row 4 2 3 ∷ row 6 1 3 ∷ []) []
     -- cancelled at 3: it holds at 3, so that `next` gets nothing; after the call it holds nothing, gives no 3, and `worst` starts at 4
-    ∷ case (at 0 next ∷ at 0 worst ∷ until 3 best ∷ []) 3 (2 ∷ 3 ∷ 2 ∷ 3 ∷ 1 ∷ 7 ∷ []) (entryAs next 3 0 false ∷ entryAs worst 4 0 false ∷ entryAs best 2 0 true ∷ [])
-    ∷ case (at 0 next ∷ at 0 worst ∷ until 3 best ∷ []) 4 (2 ∷ 3 ∷ 2 ∷ 3 ∷ 1 ∷ 7 ∷ 4 ∷ 2 ∷ 2 ∷ []) (entryAs next 3 0 false ∷ entryAs worst 4 1 false ∷ entryAs best 2 0 true ∷ [])
-    ∷ case (at 0 next ∷ at 0 worst ∷ until 3 best ∷ []) 6 (2 ∷ 3 ∷ 2 ∷ 3 ∷ 1 ∷ 7 ∷ 4 ∷ 2 ∷ 2 ∷ 6 ∷ 2 ∷ 3 ∷ []) []
+    ∷ case three 3 (row 2 3 2 ∷ row 3 1 7 ∷ []) (entryAs next 3 0 false ∷ entryAs worst 4 0 false ∷ entryAs best 2 0 true ∷ [])
+    ∷ case three 4 (row 2 3 2 ∷ row 3 1 7 ∷ row 4 2 2 ∷ []) (entryAs next 3 0 false ∷ entryAs worst 4 1 false ∷ entryAs best 2 0 true ∷ [])
+    ∷ case three 6 (row 2 3 2 ∷ row 3 1 7 ∷ row 4 2 2 ∷ row 6 2 3 ∷ []) []
     -- cancelled at 2, its start: it holds that second alone. At 1: never
-    ∷ case (at 0 next ∷ until 2 best ∷ []) 3 (2 ∷ 3 ∷ 2 ∷ 3 ∷ 1 ∷ 2 ∷ []) (entryAs next 3 1 false ∷ entryAs best 2 0 true ∷ [])
+    ∷ case (at 0 next ∷ until 2 best ∷ []) 3 (row 2 3 2 ∷ row 3 1 2 ∷ []) (entryAs next 3 1 false ∷ entryAs best 2 0 true ∷ [])
     ∷ case (until 1 best ∷ []) 3 [] (entryAs best 2 0 true ∷ [])
     -- a cancellation that is not yet
-    ∷ case (until 3 best ∷ []) 2 (2 ∷ 3 ∷ 2 ∷ []) (entryAs best 2 1 false ∷ [])
+    ∷ case (until 3 best ∷ []) 2 (row 2 3 2 ∷ []) (entryAs best 2 1 false ∷ [])
     -- first accepted at its start, and after it: the next second
-    ∷ case (at 2 best ∷ []) 3 (3 ∷ 3 ∷ 2 ∷ []) (entryAs best 3 1 false ∷ [])
+    ∷ case (at 2 best ∷ []) 3 (row 3 3 2 ∷ []) (entryAs best 3 1 false ∷ [])
     ∷ case (at 3 best ∷ []) 3 [] (entryAs best 4 0 false ∷ [])
     -- an id used again after its event ended
-    ∷ case (at 0 (event 1 0 1 1 1) ∷ at 2 (event 1 0 1 3 2) ∷ []) 4 (1 ∷ 1 ∷ 2 ∷ 2 ∷ 1 ∷ 3 ∷ 3 ∷ 1 ∷ 2 ∷ []) (entryAs (event 1 0 1 3 2) 3 1 false ∷ [])
+    ∷ case (at 0 (event 1 0 1 1 1) ∷ at 2 (event 1 0 1 3 2) ∷ []) 4 (row 1 1 2 ∷ row 2 1 3 ∷ row 3 1 2 ∷ []) (entryAs (event 1 0 1 3 2) 3 1 false ∷ [])
     -- one moment, 3: 4 ends, 2 loses its only control to 5, 3 gets none, 1 and 5 start
     ∷ case (at 0 (event 1 0 8 3 2) ∷ at 0 (event 2 0 1 1 4) ∷ at 0 (event 3 0 1 3 2) ∷ at 0 (event 4 0 2 2 1) ∷ at 0 (event 5 7 1 3 2) ∷ []) 3
-    (1 ∷ 2 ∷ 2 ∷ 2 ∷ 4 ∷ 2 ∷ 3 ∷ 4 ∷ 3 ∷ 3 ∷ 2 ∷ 7 ∷ 3 ∷ 3 ∷ 7 ∷ 3 ∷ 1 ∷ 2 ∷ 3 ∷ 5 ∷ 2 ∷ [])
+    (row 1 2 2 ∷ row 2 4 2 ∷ row 3 4 3 ∷ row 3 2 7 ∷ row 3 3 7 ∷ row 3 1 2 ∷ row 3 5 2 ∷ [])
     (entryAs (event 1 0 8 3 2) 3 8 false ∷ entryAs (event 2 0 1 1 4) 1 0 false ∷ entryAs (event 3 0 1 3 2) 3 0 false ∷ entryAs (event 5 7 1 3 2) 3 1 false ∷ [])
     ∷ []
 
@@ -177,8 +183,8 @@ again = event 1 0 1 10 10
 unfoldable pub historyTable : List HistoryCase
 historyTable =
     brings [] [] [] 0
-    -- what is refused brings nothing: a program twice, one that is none, an id that is not held, another event under a held id, a reading before the clock, a listing that does not fit. An
-    -- event given again counts once, with the receipt clock of the first time; of two cancellations the first counts; a question and a listing bring nothing
+    -- what is refused brings nothing: a program twice, one that is none, an id that is not held, another event under a held id, a reading before the clock, a
+    -- listing that does not fit. An event given again counts once, with the receipt clock of the first time; of two cancellations the first counts
     ∷ brings (
     deliver left ∷ addProgram 0 1 5 ∷ addProgram 0 1 5 ∷ addProgram 8 1 5 ∷ cancel 1 ∷ deliver right ∷ setClock 7 [] ∷ deliver left ∷ deliver right
     ∷ deliver (event 2 0 1 21 10) ∷ cancel 2 ∷ setClock 8 [] ∷ cancel 2 ∷ setClock 3 [] ∷ ask 0 ∷ list [] ∷ []
