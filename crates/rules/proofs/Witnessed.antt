@@ -21,7 +21,7 @@ use Rattle.rules.specs.TextTable.{textInput, textOutput, endingsHold, Te
 use Rattle.rules.specs.Script.{scriptsHold}
 use Rattle.rules.specs.CallTable.{callTable, answersHold, CallTables}
 use Rattle.rules.specs.Schedules.{holding, rowsTo, heldEvents}
-use Rattle.rules.specs.ScheduleTable.{schedulesHold, scheduleTable}
+use Rattle.rules.specs.ScheduleTable.{programsHold, schedulesHold, scheduleTable, ScheduleTables}
 use Rattle.rules.specs.MomentTable.{momentsHold, momentTable}
 use Rattle.rules.specs.Marks.{same}
 use Rattle.rules.proofs.SoundKept.{sound-fresh}
@@ -38,7 +38,7 @@ unfolding scriptsHold callTable quickReplies quickCall quickChecks quickDoes jum
 calls-evaluate = refl
 
 answers-evaluate : answersHold ≡ true
-unfolding answersHold
+unfolding answersHold usable
 answers-evaluate = refl
 
 pub call-tables : CallTables
@@ -85,9 +85,16 @@ numbers-evaluate = refl
 pub image-tables : ImageTables
 image-tables = record { rules = rules-evaluate; bytes = bytes-evaluate; forms = forms-evaluate; refused = images-evaluate; numbers = numbers-evaluate }
 
-pub schedules-evaluate : schedulesHold scheduleTable ≡ true
+programs-evaluate : programsHold ≡ true
+unfolding programsHold
+programs-evaluate = refl
+
+schedules-evaluate : schedulesHold scheduleTable ≡ true
 unfolding schedulesHold scheduleTable holding rowsTo heldEvents rowsAt rowsFrom rowsWith codeAt holdingAt heldAt taken claim better key drawnStart effectiveEnd effectiveStart cut join
 schedules-evaluate = refl
+
+pub schedule-tables : ScheduleTables
+schedule-tables = record { programs = programs-evaluate; cases = schedules-evaluate }
 
 pub moments-evaluate : momentsHold momentTable ≡ true
 unfolding momentsHold momentTable advance second entriesFrom rowsAt rowsFrom rowsWith codeAt holdingAt heldAt taken claim better key drawnStart effectiveEnd cut join

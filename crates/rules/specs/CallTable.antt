@@ -2,14 +2,16 @@
 use mathlib.Core.Path.{_≡_}
 use Prim.Native.Nat.{ℕ, _/_, _%_}
 use mathlib.Core.Bool.{Bool, true, false, _&&_}
-use mathlib.Core.List.{List, [], _∷_, _++_}
+use mathlib.Core.List.{List, [], _∷_, _++_, map}
 use lib.ListN.{replicate}
 use Rattle.rules.specs.declared.Event.{Event}
 use Rattle.rules.specs.declared.Record.{Record}
+use Rattle.rules.specs.declared.Primacy.{Primacy}
+use Rattle.rules.specs.declared.Primacy.the-variants.{Usable, Reserved}
 use Rattle.rules.specs.declared.Answer.{Answer}
 use Rattle.rules.specs.declared.Answer.the-variants.{Refused, Code, Count, Holder, Default, Nobody}
-use Rattle.rules.specs.Records.{fresh, pad}
-use Rattle.rules.specs.Calls.{addProgram, deliver, cancel, setClock, ask, list, nothing, code, count, holder, default, nobody, numberOf, valueOf}
+use Rattle.rules.specs.Records.{primacyIs, fresh, pad}
+use Rattle.rules.specs.Calls.{addProgram, deliver, cancel, setClock, ask, list, nothing, code, count, holder, default, nobody, numberOf, valueOf, counted}
 use Rattle.rules.specs.Script.{valueNumbers, Step, scriptsHold, _answers_, _refused_}
 use Rattle.rules.specs.Marks.{same, replies}
 
@@ -180,6 +182,12 @@ callTable = codes ∷ holders ∷ defaultsOf ∷ moment ∷ cancelledOne ∷ aft
 abbrev answerNumbers : Answer → List ℕ
 answerNumbers a = numberOf a ∷ valueNumbers (valueOf a)
 
+-- 1 for a primacy that may be used
+abbrev usableNumber : Primacy → ℕ
+usableNumber Usable = 1
+usableNumber Reserved = 0
+
+-- with the count of each value, and the ends of what primacies may be used
 unfoldable pub answersHold : Bool
 answersHold =
     same (answerNumbers (Refused 13)) (13 ∷ valueNumbers nothing)
@@ -188,6 +196,8 @@ answersHold =
     && same (answerNumbers (Holder (record { value = 9 }))) (0 ∷ valueNumbers (holder 9))
     && same (answerNumbers (Default 7)) (0 ∷ valueNumbers (default 7))
     && same (answerNumbers Nobody) (0 ∷ valueNumbers nobody)
+    && same (map counted (nothing ∷ code 6 ∷ count 96 ∷ holder 9 ∷ default 7 ∷ nobody ∷ [])) (0 ∷ 0 ∷ 96 ∷ 0 ∷ 0 ∷ 0 ∷ [])
+    && same (map (λ p. usableNumber (primacyIs p)) (2 ∷ 3 ∷ 64 ∷ 65 ∷ 191 ∷ 192 ∷ [])) (1 ∷ 0 ∷ 0 ∷ 1 ∷ 1 ∷ 0 ∷ [])
 
 pub record CallTables : Type 0 where
   -- each script, from the fresh schedule

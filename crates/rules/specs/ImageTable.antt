@@ -16,16 +16,12 @@ use Rattle.rules.specs.Bytes.{rowBytes}
 use Rattle.rules.specs.Sound.{sound}
 use Rattle.rules.specs.Calls.{Call, addProgram, deliver, cancel, setClock, ask, list, call}
 use Rattle.rules.specs.Image.{image, loaded, formed, imaged}
-use Rattle.rules.specs.Script.{entryNumbers}
+use Rattle.rules.specs.Script.{programNumbers, entryNumbers}
 use Rattle.rules.specs.Marks.{same}
 
 -- whether two tests come out the same
 abbrev agree : Bool → Bool → Bool
 agree a b = cond a b (not b)
-
-abbrev programNumbers : List Program → List ℕ
-programNumbers [] = []
-programNumbers (p ∷ ps) = cond (p .added) 1 0 ∷ p .primacy ∷ p .defaults ∷ programNumbers ps
 
 -- THE RULES
 

@@ -1,4 +1,5 @@
 -- Call lists: what a list brings, and the schedule of that: what the rules give for it, worked out second by second over all events, none dropped.
+use mathlib.Core.Path.{_≡_}
 use Prim.Native.Nat.{ℕ, _-_}
 use mathlib.Core.Bool.{Bool, true, false, _&&_}
 use mathlib.Core.List.{List, [], _∷_, _++_}
@@ -9,9 +10,9 @@ use Rattle.rules.specs.declared.Entry.{Entry}
 use Rattle.rules.specs.Rows.{Row}
 use Rattle.rules.specs.Calls.{Call, addProgram, deliver, cancel, setClock, ask, list}
 use Rattle.rules.specs.History.{Added, Brought, History}
-use Rattle.rules.specs.Schedules.{stateOf, rowsOf}
+use Rattle.rules.specs.Schedules.{programsOf, stateOf, rowsOf}
 use Rattle.rules.specs.LineTable.{eventNumbers}
-use Rattle.rules.specs.Script.{entriesNumbers}
+use Rattle.rules.specs.Script.{programNumbers, entriesNumbers}
 use Rattle.rules.specs.Marks.{same}
 
 -- what was brought; then the rows up to the last reading, and the events held after it
@@ -22,13 +23,15 @@ pub record ScheduleCase : Type 0 where
   pub held : List Entry
 
 -- program 0 has primacy 1, program 7 primacy 0
+abbrev both : List Added
+both = record { number = 7; primacy = 0; defaults = 5 } ∷ record { number = 0; primacy = 1; defaults = 6 } ∷ []
+
 abbrev historyFor : ScheduleCase → History
-historyFor c =
-    record {
-      programs = record { number = 7; primacy = 0; defaults = 0 } ∷ record { number = 0; primacy = 1; defaults = 0 } ∷ [];
-      brought = c .brought;
-      last = c .last;
-    }
+historyFor c = record { programs = both; brought = c .brought; last = c .last }
+
+-- each in its place, the others not added
+unfoldable pub programsHold : Bool
+programsHold = same (programNumbers (programsOf both)) (1 ∷ 1 ∷ 6 ∷ (replicate 18 0 ++ (1 ∷ 0 ∷ 5 ∷ [])))
 
 -- time, id, code of each row
 abbrev pub rowNumbers : List Row → List ℕ
@@ -128,6 +131,12 @@ scheduleTable =
     (row 1 2 2 ∷ row 2 4 2 ∷ row 3 4 3 ∷ row 3 2 7 ∷ row 3 3 7 ∷ row 3 1 2 ∷ row 3 5 2 ∷ [])
     (entryAs (event 1 0 8 3 2) 3 8 false ∷ entryAs (event 2 0 1 1 4) 1 0 false ∷ entryAs (event 3 0 1 3 2) 3 0 false ∷ entryAs (event 5 7 1 3 2) 3 1 false ∷ [])
     ∷ []
+
+pub record ScheduleTables : Type 0 where
+  -- the programs that were added, each in its place
+  pub programs : programsHold ≡ true
+  -- rows and held events
+  pub cases : schedulesHold scheduleTable ≡ true
 
 -- What a list brings.
 

@@ -3,6 +3,7 @@ use Prim.Native.Nat.{ℕ}
 use mathlib.Core.Bool.{Bool, true, false, cond, _&&_}
 use mathlib.Core.List.{List, [], _∷_, _++_, map}
 use lib.Dec.{eqb}
+use Rattle.rules.specs.declared.Program.{Program}
 use Rattle.rules.specs.declared.Entry.{Entry}
 use Rattle.rules.specs.declared.Record.{Record}
 use Rattle.rules.specs.Calls.{Call, Value, nothing, code, count, holder, default, nobody, lentBytes, lentList}
@@ -17,6 +18,11 @@ valueNumbers (count n) = 2 ∷ n ∷ []
 valueNumbers (holder i) = 3 ∷ i ∷ []
 valueNumbers (default p) = 4 ∷ p ∷ []
 valueNumbers nobody = 5 ∷ []
+
+-- programs as numbers, three for each place
+abbrev pub programNumbers : List Program → List ℕ
+programNumbers [] = []
+programNumbers (p ∷ ps) = cond (p .added) 1 0 ∷ p .primacy ∷ p .defaults ∷ programNumbers ps
 
 -- a held event as numbers: its fields, effective start, held mask, cancelled mark
 abbrev pub entryNumbers : Entry → List ℕ

@@ -19,7 +19,7 @@ ghost use Rattle.rules.specs.CallTable.{CallTables};
 ghost use Rattle.rules.specs.ImageTable.{ImageTables};
 ghost use Rattle.rules.specs.FaceTable.{FaceTables};
 ghost use Rattle.rules.specs.History.{historyOf};
-ghost use Rattle.rules.specs.ScheduleTable.{schedulesHold, scheduleTable, historiesHold, historyTable};
+ghost use Rattle.rules.specs.ScheduleTable.{ScheduleTables, historiesHold, historyTable};
 ghost use Rattle.rules.specs.MomentTable.{momentsHold, momentTable};
 
 mod times;
@@ -202,7 +202,7 @@ pub fn histories_brought()
 
 // Call lists: the rows and the held events that the rules give for what was brought.
 pub fn schedules_worked_out()
-    ensures { λ _. ⌜ schedulesHold scheduleTable ≡ true ⌝ }
+    ensures { λ _. ⌜ ScheduleTables ⌝ }
 {}
 
 // Frames and image: the seconds after an accepted state, one by one.
