@@ -20,9 +20,9 @@ use Rattle.rules.specs.Refusals.{find, late, programChecks, eventChecks,
 use Rattle.rules.specs.Calls.{Call, bestDefault, holderIn, answerFor, does, checks, call, joined, written}
 use Rattle.rules.specs.History.{Added, Brought, History, noHistory, note, acceptedCalls, historyFrom, historyOf}
 use Rattle.rules.specs.Arrival.{SameArrivals, InTime, Cancellation, joinedRows}
-use Rattle.rules.specs.Sample.{event, one, two, three, four, five, plainly, otherwise, Missed, prompt, tardy, cancelledBy, uncancelled, another, redrawn, longer, shorter, ranked, Sample}
+use Rattle.rules.specs.Sample.{one, two, three, four, five, plainly, otherwise, Missed, prompt, tardy, cancelledBy, uncancelled, another, redrawn, longer, shorter, ranked, Sample}
 use Rattle.rules.specs.ScheduleTable.{historiesHold, historyTable}
-use Rattle.rules.specs.Marks.{same}
+use Rattle.rules.specs.Marks.{drawnBack, same}
 use Rattle.rules.proofs.SoundState.{Sound}
 use Rattle.rules.proofs.SoundKept.{sound-fresh}
 use Rattle.rules.proofs.Jump.{jumps, nextMoment, idleFor}
@@ -154,11 +154,11 @@ other-clock : In (cancelled 9) (cancelled 10 ∷ []) → ⊥
 other-clock (inl e) = let l : _≡_ {A = ℕ} 9 10 = ap (λ c. c .clock) e in omega arith
 other-clock (inr m) = m
 
-other-id : In (event 6 0 2 100 10 20) (one ∷ []) → ⊥
+other-id : In (drawnBack 6 0 2 100 10 20) (one ∷ []) → ⊥
 other-id (inl e) = let l : _≡_ {A = ℕ} 6 1 = ap idOf e in omega arith
 other-id (inr m) = m
 
-other-draw : In one (event 1 0 1 100 11 20 ∷ []) → ⊥
+other-draw : In one (drawnBack 1 0 1 100 11 20 ∷ []) → ⊥
 other-draw (inl e) = let l : _≡_ {A = ℕ} 61946 61947 = ap (λ e. e .«start_draw») e in omega arith
 other-draw (inr m) = m
 
@@ -191,21 +191,21 @@ cancellations-sample = record {
 events-sample : Missed (uncancelled) (another)
 unfolding historyFrom note quickAccepted quickJoined quickCall quickChecks quickDoes jumps nextMoment idleFor advance second entriesFrom rowsAt rowsFrom rowsWith codeAt holdingAt heldAt taken claim better key drawnStart effectiveEnd effectiveStart usable has cut join big flat rowBytes outOfRange malformed sameEvent find late programChecks eventChecks cancelChecks clockChecks askChecks listChecks bestDefault holderIn answerFor does checks
 events-sample = record {
-  premise = apart (uncancelled) (another) (small (brought one 0 none ∷ [])) (small (brought one 0 none ∷ brought (event 6 0 2 100 10 20) 0 none ∷ [])) refl refl (λ s. other-id (s .events (event 6 0 2 100 10 20) .1 (inr (inl refl))));
+  premise = apart (uncancelled) (another) (small (brought one 0 none ∷ [])) (small (brought one 0 none ∷ brought (drawnBack 6 0 2 100 10 20) 0 none ∷ [])) refl refl (λ s. other-id (s .events (drawnBack 6 0 2 100 10 20) .1 (inr (inl refl))));
   rows = differ (uncancelled) (another) refl;
 }
 
 fields-sample : Missed (uncancelled) (redrawn)
 unfolding historyFrom note quickAccepted quickJoined quickCall quickChecks quickDoes jumps nextMoment idleFor advance second entriesFrom rowsAt rowsFrom rowsWith codeAt holdingAt heldAt taken claim better key drawnStart effectiveEnd effectiveStart usable has cut join big flat rowBytes outOfRange malformed sameEvent find late programChecks eventChecks cancelChecks clockChecks askChecks listChecks bestDefault holderIn answerFor does checks
 fields-sample = record {
-  premise = apart (uncancelled) (redrawn) (small (brought one 0 none ∷ [])) (small (brought (event 1 0 1 100 11 20) 0 none ∷ [])) refl refl (λ s. other-draw (s .events one .0 (inl refl)));
+  premise = apart (uncancelled) (redrawn) (small (brought one 0 none ∷ [])) (small (brought (drawnBack 1 0 1 100 11 20) 0 none ∷ [])) refl refl (λ s. other-draw (s .events one .0 (inl refl)));
   rows = differ (uncancelled) (redrawn) refl;
 }
 
 programs-sample : Missed (ranked 1 2) (ranked 2 1)
 unfolding historyFrom note quickAccepted quickJoined quickCall quickChecks quickDoes jumps nextMoment idleFor advance second entriesFrom rowsAt rowsFrom rowsWith codeAt holdingAt heldAt taken claim better key drawnStart effectiveEnd effectiveStart usable has cut join big flat rowBytes outOfRange malformed sameEvent find late programChecks eventChecks cancelChecks clockChecks askChecks listChecks bestDefault holderIn answerFor does checks
 programs-sample = record {
-  premise = apart (ranked 1 2) (ranked 2 1) (record { programs = added 1 2 1 ∷ added 0 1 1 ∷ []; brought = brought one 0 none ∷ brought (event 5 1 1 100 10 20) 0 none ∷ []; last = 14 }) (record { programs = added 1 1 1 ∷ added 0 2 1 ∷ []; brought = brought one 0 none ∷ brought (event 5 1 1 100 10 20) 0 none ∷ []; last = 14 }) refl refl (λ s. other-program (s .programs (added 0 1 1) .0 (inr (inl refl))));
+  premise = apart (ranked 1 2) (ranked 2 1) (record { programs = added 1 2 1 ∷ added 0 1 1 ∷ []; brought = brought one 0 none ∷ brought (drawnBack 5 1 1 100 10 20) 0 none ∷ []; last = 14 }) (record { programs = added 1 1 1 ∷ added 0 2 1 ∷ []; brought = brought one 0 none ∷ brought (drawnBack 5 1 1 100 10 20) 0 none ∷ []; last = 14 }) refl refl (λ s. other-program (s .programs (added 0 1 1) .0 (inr (inl refl))));
   rows = differ (ranked 1 2) (ranked 2 1) refl;
 }
 

@@ -13,23 +13,7 @@ use Rattle.rules.specs.declared.Answer.the-variants.{Refused, Code, Coun
 use Rattle.rules.specs.Records.{primacyIs, fresh, pad}
 use Rattle.rules.specs.Calls.{addProgram, deliver, cancel, setClock, ask, list, nothing, code, count, holder, default, nobody, numberOf, valueOf, counted}
 use Rattle.rules.specs.Script.{valueNumbers, Step, scriptsHold, _answers_, _refused_}
-use Rattle.rules.specs.Marks.{same, replies}
-
--- id, program, controls, creation time, start, duration; nothing drawn
-abbrev event : ℕ → ℕ → ℕ → ℕ → ℕ → ℕ → Event
-event i program controls created start duration =
-    record {
-      id = record { value = i };
-      program = program;
-      controls = controls;
-      created = created;
-      start = start;
-      duration = duration;
-      «randomize_start» = 0;
-      «randomize_duration» = 0;
-      «start_draw» = 0;
-      «duration_draw» = 0;
-    }
+use Rattle.rules.specs.Marks.{undrawn, same, replies}
 
 -- a row's bytes, of a time below 65,536 and an id below 256
 abbrev row : ℕ → ℕ → ℕ → List ℕ
@@ -45,7 +29,7 @@ listedAs e begins mask gone = record { entry = record { event = e; begins = begi
 
 -- a place of a lent list before it is written to
 abbrev place : Record
-place = listedAs (event 99 9 99 99 99 99) 99 99 true
+place = listedAs (undrawn 99 9 99 99 99 99) 99 99 true
 
 -- a listing into `room` places: how many records, and how many places stay as they were
 abbrev listing : ℕ → ℕ → List Record → ℕ → Step
@@ -53,10 +37,10 @@ listing room n rs rest = record { call = list (replicate room place); number = 0
 
 -- an event of two controls, and one that is better on the first of them
 abbrev wide : Event
-wide = event 2 1 3 0 5000 100
+wide = undrawn 2 1 3 0 5000 100
 
 abbrev narrow : Event
-narrow = event 1 0 1 0 5050 100
+narrow = undrawn 1 0 1 0 5050 100
 
 -- codes: 0 for a program, 1 and then 0 for an event, 6 and then 0 for its cancellation; cancelled or not, it stays held until its end
 abbrev codes : List Step
@@ -132,12 +116,12 @@ abbrev moment : List Step
 moment =
     (addProgram 0 0 0 answers code 0)
     ∷ (addProgram 1 1 0 answers code 0)
-    ∷ (deliver (event 30 1 1 0 5000 100) answers code 1)
-    ∷ (deliver (event 10 1 2 0 5000 100) answers code 1)
-    ∷ (deliver (event 40 1 4 0 5000 200) answers code 1)
-    ∷ (deliver (event 20 1 8 0 5000 200) answers code 1)
-    ∷ (deliver (event 50 0 4 0 5100 200) answers code 1)
-    ∷ (deliver (event 5 0 8 0 5100 200) answers code 1)
+    ∷ (deliver (undrawn 30 1 1 0 5000 100) answers code 1)
+    ∷ (deliver (undrawn 10 1 2 0 5000 100) answers code 1)
+    ∷ (deliver (undrawn 40 1 4 0 5000 200) answers code 1)
+    ∷ (deliver (undrawn 20 1 8 0 5000 200) answers code 1)
+    ∷ (deliver (undrawn 50 0 4 0 5100 200) answers code 1)
+    ∷ (deliver (undrawn 5 0 8 0 5100 200) answers code 1)
     ∷ reads 5099 68 4 (row 5000 10 2 ++ (row 5000 20 2 ++ (row 5000 30 2 ++ row 5000 40 2))) 0
     ∷ reads 5100 103 6 (row 5100 10 3 ++ (row 5100 30 3 ++ (row 5100 20 7 ++ (row 5100 40 7 ++ (row 5100 5 2 ++ row 5100 50 2))))) 1
     ∷ reads 9000000000 34 2 (row 5300 5 3 ++ row 5300 50 3) 0
@@ -147,16 +131,16 @@ moment =
 abbrev cancelledOne : List Step
 cancelledOne =
     (addProgram 0 0 1 answers code 0)
-    ∷ (deliver (event 9 0 1 0 5000 100) answers code 1)
-    ∷ (deliver (event 8 0 1 0 5000 100) answers code 1)
-    ∷ (deliver (event 7 0 1 0 5001 100) answers code 1)
+    ∷ (deliver (undrawn 9 0 1 0 5000 100) answers code 1)
+    ∷ (deliver (undrawn 8 0 1 0 5000 100) answers code 1)
+    ∷ (deliver (undrawn 7 0 1 0 5001 100) answers code 1)
     ∷ reads 5000 34 2 (row 5000 8 7 ++ row 5000 9 2) 0
     ∷ (ask 0 answers holder 9)
     ∷ (cancel 9 answers code 6)
     ∷ (ask 0 answers default 0)
     ∷ reads 5001 17 1 (row 5001 7 2) 0
     ∷ (ask 0 answers holder 7)
-    ∷ listing 3 3 (listedAs (event 7 0 1 0 5001 100) 5001 1 false ∷ listedAs (event 8 0 1 0 5000 100) 5000 0 false ∷ listedAs (event 9 0 1 0 5000 100) 5000 0 true ∷ []) 0
+    ∷ listing 3 3 (listedAs (undrawn 7 0 1 0 5001 100) 5001 1 false ∷ listedAs (undrawn 8 0 1 0 5000 100) 5000 0 false ∷ listedAs (undrawn 9 0 1 0 5000 100) 5000 0 true ∷ []) 0
     ∷ reads 5200 17 1 (row 5101 7 3) 0
     ∷ []
 
@@ -165,13 +149,13 @@ abbrev afterStart : List Step
 afterStart =
     (addProgram 0 0 0 answers code 0)
     ∷ reads 5050 0 0 [] 0
-    ∷ (deliver (event 3 0 1 0 5000 100) answers code 1)
-    ∷ listing 1 1 (listedAs (event 3 0 1 0 5000 100) 5051 0 false ∷ []) 0
+    ∷ (deliver (undrawn 3 0 1 0 5000 100) answers code 1)
+    ∷ listing 1 1 (listedAs (undrawn 3 0 1 0 5000 100) 5051 0 false ∷ []) 0
     ∷ (ask 0 answers nobody)
     ∷ reads 5051 17 1 (row 5051 3 2) 0
     ∷ (ask 0 answers holder 3)
     ∷ (cancel 3 answers code 6)
-    ∷ listing 1 1 (listedAs (event 3 0 1 0 5000 100) 5051 0 true ∷ []) 0
+    ∷ listing 1 1 (listedAs (undrawn 3 0 1 0 5000 100) 5051 0 true ∷ []) 0
     ∷ reads 5100 0 0 [] 0
     ∷ []
 

@@ -1,31 +1,15 @@
 -- Numbers given, 3 to 14, each on its edge: the last value that is refused beside the first that is not. (1: LineTable, TextTable; 2: ImageTable.)
-use Prim.Native.Nat.{ℕ, zero, suc, _+_, _-_}
+use Prim.Native.Nat.{ℕ, zero, suc, _+_}
 use mathlib.Core.List.{List, [], _∷_, _++_}
 use lib.ListN.{replicate}
 use Rattle.rules.specs.declared.Event.{Event}
 use Rattle.rules.specs.Calls.{Call, addProgram, deliver, cancel, setClock, ask, list, recordOf}
 use Rattle.rules.specs.Records.{noEntry}
-use Rattle.rules.specs.Marks.{Edge}
-
--- -k on 16 bits
-abbrev minus : ℕ → ℕ
-minus k = 65536 - k
+use Rattle.rules.specs.Marks.{minus, eventWith, undrawn, Edge}
 
 -- program, controls, start, duration, randomisations, draws
 abbrev event : ℕ → ℕ → ℕ → ℕ → ℕ → ℕ → ℕ → ℕ → Event
-event program controls start duration rs rd sd dd =
-    record {
-      id = record { value = 1 };
-      program = program;
-      controls = controls;
-      created = 0;
-      start = start;
-      duration = duration;
-      «randomize_start» = rs;
-      «randomize_duration» = rd;
-      «start_draw» = sd;
-      «duration_draw» = dd;
-    }
+event program controls start duration rs rd sd dd = eventWith 1 program controls 0 start duration rs rd sd dd
 
 abbrev plain : ℕ → ℕ → Event
 plain start duration = event 0 1 start duration 0 0 0 0
@@ -33,20 +17,7 @@ plain start duration = event 0 1 start duration 0 0 0 0
 -- n events with the ids 2 on
 abbrev others : ℕ → List Call
 others zero = []
-others (suc n) =
-    deliver (record {
-      id = record { value = n + 2 };
-      program = 0;
-      controls = 1;
-      created = 0;
-      start = 5000;
-      duration = 600;
-      «randomize_start» = 0;
-      «randomize_duration» = 0;
-      «start_draw» = 0;
-      «duration_draw» = 0;
-    })
-    ∷ others n
+others (suc n) = deliver (undrawn (n + 2) 0 1 0 5000 600) ∷ others n
 
 abbrev program : Call
 program = addProgram 0 0 0

@@ -11,7 +11,7 @@ use Rattle.rules.specs.Records.{fresh, pad}
 use Rattle.rules.specs.Calls.{Call, addProgram, deliver, cancel, setClock, run}
 use Rattle.rules.specs.Image.{loaded, imaged}
 use Rattle.rules.specs.Face.{Operation, addsProgram, delivers, cancels, setsClock, asks, lists, FaceOutcome, face, faceFresh}
-use Rattle.rules.specs.Marks.{same}
+use Rattle.rules.specs.Marks.{eventWith, undrawn, same}
 
 -- an operation after calls by value: what is lent to it, what it returns, what the lent bytes hold then
 pub record FaceCase : Type 0 where
@@ -28,35 +28,11 @@ pub record FaceHolds (c : FaceCase) : Type 0 where
 
 -- an event whose bytes can be told apart: from 5000 to 5100 on controls 0 and 1
 abbrev one : Event
-one =
-    record {
-      id = record { value = 0x0102030405060708 };
-      program = 7;
-      controls = 0x03;
-      created = 0x0A0B0C0D;
-      start = 5000;
-      duration = 100;
-      «randomize_start» = 1;
-      «randomize_duration» = 2;
-      «start_draw» = 0;
-      «duration_draw» = 0;
-    }
+one = eventWith 0x0102030405060708 7 0x03 0x0A0B0C0D 5000 100 1 2 0 0
 
 -- the same on control 2, under a larger id
 abbrev two : Event
-two =
-    record {
-      id = record { value = 0x1112131415161718 };
-      program = 0;
-      controls = 0x04;
-      created = 0;
-      start = 6000;
-      duration = 100;
-      «randomize_start» = 0;
-      «randomize_duration» = 0;
-      «start_draw» = 0;
-      «duration_draw» = 0;
-    }
+two = undrawn 0x1112131415161718 0 0x04 0 6000 100
 
 -- their entries at 5000
 abbrev oneBytes : List ℕ

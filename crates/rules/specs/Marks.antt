@@ -1,5 +1,5 @@
 -- Bench marks T1 to T12 and document 01's worked example, as data.
-use Prim.Native.Nat.{ℕ, _*_}
+use Prim.Native.Nat.{ℕ, _-_, _*_}
 use mathlib.Core.Bool.{Bool, true, false, _&&_}
 use mathlib.Core.List.{List, [], _∷_, _++_, map}
 use lib.Dec.{eqb}
@@ -15,6 +15,34 @@ use Rattle.rules.specs.Calls.{Call, addProgram, deliver, setClock, ask, 
 
 abbrev pub buffer : List ℕ
 buffer = replicate 136 0
+
+-- -k on 16 bits
+abbrev pub minus : ℕ → ℕ
+minus k = 65536 - k
+
+-- an event: id, program, controls, creation time, start, duration, randomisations, draws
+abbrev pub eventWith : ℕ → ℕ → ℕ → ℕ → ℕ → ℕ → ℕ → ℕ → ℕ → ℕ → Event
+eventWith i program controls created start duration rs rd sd dd =
+    record {
+      id = record { value = i };
+      program = program;
+      controls = controls;
+      created = created;
+      start = start;
+      duration = duration;
+      «randomize_start» = rs;
+      «randomize_duration» = rd;
+      «start_draw» = sd;
+      «duration_draw» = dd;
+    }
+
+-- id, program, controls, creation time, start, duration; nothing drawn
+abbrev pub undrawn : ℕ → ℕ → ℕ → ℕ → ℕ → ℕ → Event
+undrawn i program controls created start duration = eventWith i program controls created start duration 0 0 0 0
+
+-- id, program, controls, creation time, drawn start (the start 3,600 drawn back), duration
+abbrev pub drawnBack : ℕ → ℕ → ℕ → ℕ → ℕ → ℕ → Event
+drawnBack i program controls created start duration = eventWith i program controls created 3600 duration (minus 3600) 0 (minus (3600 - start)) 0
 
 -- what a host sees of a call
 pub record Reply : Type 0 where

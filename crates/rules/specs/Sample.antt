@@ -1,7 +1,7 @@
 -- Demand 3 is not empty: two lists of calls that differ in order, spacing of the clock, receipt clocks, repeats and refused calls, and meet its premise.
 -- Nor could it ask for less: for each part of the premise two lists that miss it alone, and give other rows.
 use mathlib.Core.Path.{_≡_}
-use Prim.Native.Nat.{ℕ, _-_}
+use Prim.Native.Nat.{ℕ}
 use mathlib.Core.List.{List, [], _∷_, _++_}
 use lib.ListN.{length, replicate}
 use Rattle.rules.specs.declared.Event.{Event}
@@ -9,43 +9,28 @@ use Rattle.rules.specs.Rows.{Row}
 use Rattle.rules.specs.Bytes.{bytes}
 use Rattle.rules.specs.Calls.{Call, addProgram, deliver, cancel, setClock, ask, list}
 use Rattle.rules.specs.History.{historyOf}
+use Rattle.rules.specs.Marks.{drawnBack}
 use Rattle.rules.specs.Arrival.{SameArrivals, SameResults, joinedRows}
-
--- id, program, controls, creation time, drawn start (the start 3,600 drawn back), duration
-abbrev pub event : ℕ → ℕ → ℕ → ℕ → ℕ → ℕ → Event
-event i program controls created start duration =
-    record {
-      id = record { value = i };
-      program = program;
-      controls = controls;
-      created = created;
-      start = 3600;
-      duration = duration;
-      «randomize_start» = 65536 - 3600;
-      «randomize_duration» = 0;
-      «start_draw» = 65536 - (3600 - start);
-      «duration_draw» = 0;
-    }
 
 -- 10 to 30 on control 0, cancelled at 12
 abbrev pub one : Event
-one = event 1 0 1 100 10 20
+one = drawnBack 1 0 1 100 10 20
 
 -- 15 to 20 on controls 0 and 1: the better
 abbrev pub two : Event
-two = event 2 0 3 200 15 5
+two = drawnBack 2 0 3 200 15 5
 
 -- the id of `one` again, after its end: 40 to 45
 abbrev pub three : Event
-three = event 1 0 1 100 40 5
+three = drawnBack 1 0 1 100 40 5
 
 -- 16 to 30 on controls 1 and 2: it begins under `two`, and holds what is left
 abbrev pub four : Event
-four = event 4 0 6 150 16 14
+four = drawnBack 4 0 6 150 16 14
 
 -- 12 to 22 on control 1, of the lesser program, created last: it holds until `two` begins
 abbrev pub five : Event
-five = event 5 1 2 300 12 10
+five = drawnBack 5 1 2 300 12 10
 
 abbrev room : List ℕ
 room = replicate 136 7
@@ -92,11 +77,11 @@ uncancelled = with (deliver one ∷ [])
 
 -- one event more
 abbrev pub another : List Call
-another = with (deliver one ∷ deliver (event 6 0 2 100 10 20) ∷ [])
+another = with (deliver one ∷ deliver (drawnBack 6 0 2 100 10 20) ∷ [])
 
 -- the same event with another draw
 abbrev pub redrawn : List Call
-redrawn = with (deliver (event 1 0 1 100 11 20) ∷ [])
+redrawn = with (deliver (drawnBack 1 0 1 100 11 20) ∷ [])
 
 -- a second longer
 abbrev pub longer : List Call
@@ -107,7 +92,7 @@ shorter = with (deliver one ∷ []) ++ (deliver two ∷ setClock 14 room ∷ [])
 
 -- `one` and `five`'s like on control 0, of programs with these primacies
 abbrev pub ranked : ℕ → ℕ → List Call
-ranked p q = addProgram 0 p 1 ∷ addProgram 1 q 1 ∷ deliver one ∷ deliver (event 5 1 1 100 10 20) ∷ setClock 14 room ∷ []
+ranked p q = addProgram 0 p 1 ∷ addProgram 1 q 1 ∷ deliver one ∷ deliver (drawnBack 5 1 1 100 10 20) ∷ setClock 14 room ∷ []
 
 pub record Sample : Type 0 where
   -- they meet the premise

@@ -1,6 +1,6 @@
 -- Call lists: what a list brings, and the schedule of that: what the rules give for it, worked out second by second over all events, none dropped.
 use mathlib.Core.Path.{_≡_}
-use Prim.Native.Nat.{ℕ, _-_}
+use Prim.Native.Nat.{ℕ}
 use mathlib.Core.Bool.{Bool, true, false, _&&_}
 use mathlib.Core.List.{List, [], _∷_, _++_}
 use mathlib.Core.Option.{Option, none, some}
@@ -13,7 +13,7 @@ use Rattle.rules.specs.History.{Added, Brought, History}
 use Rattle.rules.specs.Schedules.{programsOf, stateOf, rowsOf}
 use Rattle.rules.specs.LineTable.{eventNumbers}
 use Rattle.rules.specs.Script.{programNumbers, entriesNumbers}
-use Rattle.rules.specs.Marks.{same}
+use Rattle.rules.specs.Marks.{drawnBack, same}
 
 -- what was brought; then the rows up to the last reading, and the events held after it
 pub record ScheduleCase : Type 0 where
@@ -45,21 +45,9 @@ schedulesHold (c ∷ cs) =
     && same (entriesNumbers (stateOf (historyFor c) .entries)) (entriesNumbers (c .held))
     && schedulesHold cs
 
--- id, program, controls, drawn start (the start 3,600 drawn back), duration
+-- id, program, controls, drawn start, duration
 abbrev pub event : ℕ → ℕ → ℕ → ℕ → ℕ → Event
-event i program controls start duration =
-    record {
-      id = record { value = i };
-      program = program;
-      controls = controls;
-      created = 0;
-      start = 3600;
-      duration = duration;
-      «randomize_start» = 65536 - 3600;
-      «randomize_duration» = 0;
-      «start_draw» = 65536 - (3600 - start);
-      «duration_draw» = 0;
-    }
+event i program controls start duration = drawnBack i program controls 0 start duration
 
 -- received at a clock, and not cancelled
 abbrev at : ℕ → Event → Brought

@@ -1,37 +1,14 @@
 -- Bench marks T1 to T12: the table.
-use Prim.Native.Nat.{ℕ, _-_}
+use Prim.Native.Nat.{ℕ}
 use mathlib.Core.List.{List, [], _∷_}
 use Rattle.rules.specs.declared.Event.{Event}
 use Rattle.rules.specs.declared.Period.{Period}
 use Rattle.rules.specs.Rows.{Row}
-use Rattle.rules.specs.Marks.{Answered, Question, Case}
-
--- -k on 16 bits
-abbrev minus : ℕ → ℕ
-minus k = 65536 - k
-
-abbrev drawn : ℕ → ℕ → ℕ → ℕ → ℕ → ℕ → ℕ → ℕ → ℕ → ℕ → Event
-drawn i program controls created start duration rs rd sd dd =
-    record {
-      id = record { value = i };
-      program = program;
-      controls = controls;
-      created = created;
-      start = start;
-      duration = duration;
-      «randomize_start» = rs;
-      «randomize_duration» = rd;
-      «start_draw» = sd;
-      «duration_draw» = dd;
-    }
-
--- id, program, controls, creation time, start, duration; nothing drawn
-abbrev plain : ℕ → ℕ → ℕ → ℕ → ℕ → ℕ → Event
-plain i program controls created start duration = drawn i program controls created start duration 0 0 0 0
+use Rattle.rules.specs.Marks.{minus, eventWith, undrawn, Answered, Question, Case}
 
 -- the one event: start 5000, duration 600
 abbrev one : Event
-one = plain 1 1 1 0 5000 600
+one = undrawn 1 1 1 0 5000 600
 
 abbrev period : ℕ → ℕ → Period
 period s e = record { start = s; end = e }
@@ -62,30 +39,30 @@ table =
     ∷ case 5598 (one ∷ []) (new ∷ []) (period 5599 5600 ∷ []) (row 5599 1 2 ∷ row 5600 1 3 ∷ []) (held 5599 0 1 ∷ [])
     -- T4: received a second before its end
     ∷ case 5599 (one ∷ []) (refused 9 ∷ []) [] [] []
-    -- T5: start drawn 300 back
-    ∷ case 4000 (drawn 1 1 1 0 5000 600 (minus 300) 0 (minus 300) 0 ∷ []) (new ∷ []) (period 4700 5300 ∷ [])
+    -- T5: start eventWith 300 back
+    ∷ case 4000 (eventWith 1 1 1 0 5000 600 (minus 300) 0 (minus 300) 0 ∷ []) (new ∷ []) (period 4700 5300 ∷ [])
     (row 4700 1 2 ∷ row 5300 1 3 ∷ []) (held 4700 0 1 ∷ held 5299 0 1 ∷ [])
     -- T6, both cases: a start draw beyond its randomisation, and on the other side of 0
-    ∷ case 4000 (drawn 1 1 1 0 5000 600 (minus 300) 0 (minus 301) 0 ∷ []) (refused 7 ∷ []) [] [] []
-    ∷ case 4000 (drawn 1 1 1 0 5000 600 (minus 300) 0 1 0 ∷ []) (refused 7 ∷ []) [] [] []
+    ∷ case 4000 (eventWith 1 1 1 0 5000 600 (minus 300) 0 (minus 301) 0 ∷ []) (refused 7 ∷ []) [] [] []
+    ∷ case 4000 (eventWith 1 1 1 0 5000 600 (minus 300) 0 1 0 ∷ []) (refused 7 ∷ []) [] [] []
     -- T7, both cases: a drawn duration of 0, and of 1
-    ∷ case 4000 (drawn 1 1 1 0 5000 10 0 (minus 10) 0 (minus 10) ∷ []) (refused 7 ∷ []) [] [] []
-    ∷ case 4000 (drawn 1 1 1 0 5000 10 0 (minus 10) 0 (minus 9) ∷ []) (new ∷ []) (period 5000 5001 ∷ [])
+    ∷ case 4000 (eventWith 1 1 1 0 5000 10 0 (minus 10) 0 (minus 10) ∷ []) (refused 7 ∷ []) [] [] []
+    ∷ case 4000 (eventWith 1 1 1 0 5000 10 0 (minus 10) 0 (minus 9) ∷ []) (new ∷ []) (period 5000 5001 ∷ [])
     (row 5000 1 2 ∷ row 5001 1 3 ∷ []) (held 5000 0 1 ∷ [])
     -- T8: the next, which is the worse, starts where the first ends
-    ∷ case 4000 (plain 2 1 1 0 5000 600 ∷ plain 1 1 1 0 5600 60 ∷ []) (new ∷ new ∷ []) (period 5000 5600 ∷ period 5600 5660 ∷ [])
+    ∷ case 4000 (undrawn 2 1 1 0 5000 600 ∷ undrawn 1 1 1 0 5600 60 ∷ []) (new ∷ new ∷ []) (period 5000 5600 ∷ period 5600 5660 ∷ [])
     (row 5000 2 2 ∷ row 5600 2 3 ∷ row 5600 1 2 ∷ row 5660 1 3 ∷ []) (held 5599 0 2 ∷ held 5600 0 1 ∷ [])
     -- T9: the same start; the larger id is the better
-    ∷ case 4000 (one ∷ plain 2 1 1 0 5000 600 ∷ []) (new ∷ new ∷ []) (period 5000 5600 ∷ period 5000 5600 ∷ [])
+    ∷ case 4000 (one ∷ undrawn 2 1 1 0 5000 600 ∷ []) (new ∷ new ∷ []) (period 5000 5600 ∷ period 5000 5600 ∷ [])
     (row 5000 1 7 ∷ row 5000 2 2 ∷ row 5600 2 3 ∷ []) (held 5000 0 2 ∷ held 5599 0 2 ∷ [])
     -- T10: best, next, worst, by creation time; ids go the other way
-    ∷ case 4000 (plain 1 1 1 3 5000 10 ∷ plain 2 1 1 2 5005 25 ∷ plain 3 1 1 1 5012 8 ∷ []) (new ∷ new ∷ new ∷ [])
+    ∷ case 4000 (undrawn 1 1 1 3 5000 10 ∷ undrawn 2 1 1 2 5005 25 ∷ undrawn 3 1 1 1 5012 8 ∷ []) (new ∷ new ∷ new ∷ [])
     (period 5000 5010 ∷ period 5005 5030 ∷ period 5012 5020 ∷ [])
     (row 5000 1 2 ∷ row 5005 2 7 ∷ row 5010 1 3 ∷ row 5012 3 2 ∷ row 5020 3 3 ∷ []) (held 5009 0 1 ∷ held 5012 0 3 ∷ held 5019 0 3 ∷ [])
     -- T11: two controls, and midway a better event on one of them
-    ∷ case 4000 (plain 2 1 3 0 5000 600 ∷ plain 1 1 1 1 5300 60 ∷ []) (new ∷ new ∷ []) (period 5000 5600 ∷ period 5300 5360 ∷ [])
+    ∷ case 4000 (undrawn 2 1 3 0 5000 600 ∷ undrawn 1 1 1 1 5300 60 ∷ []) (new ∷ new ∷ []) (period 5000 5600 ∷ period 5300 5360 ∷ [])
     (row 5000 2 2 ∷ row 5300 1 2 ∷ row 5360 1 3 ∷ row 5600 2 3 ∷ []) (held 5299 0 2 ∷ held 5300 0 1 ∷ held 5300 1 2 ∷ held 5599 1 2 ∷ [])
     -- T12: primacy 0 with an earlier creation time against primacy 1 with a later one
-    ∷ case 4000 (plain 1 0 1 0 5000 600 ∷ plain 2 1 1 9 5000 600 ∷ []) (new ∷ new ∷ []) []
+    ∷ case 4000 (undrawn 1 0 1 0 5000 600 ∷ undrawn 2 1 1 9 5000 600 ∷ []) (new ∷ new ∷ []) []
     (row 5000 2 7 ∷ row 5000 1 2 ∷ row 5600 1 3 ∷ []) (held 5000 0 1 ∷ held 5599 0 1 ∷ [])
     ∷ []
