@@ -15,7 +15,7 @@ use Rattle.rules.specs.declared.Answer.the-variants.{Refused, Code, Coun
 use Rattle.rules.specs.Lists.{insert, over}
 use Rattle.rules.specs.Records.{State, idOf, has, view, pad}
 use Rattle.rules.specs.Period.{periodOf}
-use Rattle.rules.specs.Bytes.{bytes}
+use Rattle.rules.specs.Bytes.{rowSize, bytes}
 use Rattle.rules.specs.Moments.{Moved, passed}
 use Rattle.rules.specs.Sound.{sound}
 use Rattle.rules.specs.Refusals.{Check, _if_, firstOf, find, programChecks, eventChecks, cancelChecks, clockChecks, askChecks, listChecks}
@@ -228,7 +228,7 @@ abbrev pub written : Call → Outcome → List ℕ
 written (addProgram n p d) o = []
 written (deliver e) o = []
 written (cancel i) o = []
-written (setClock t b) o = take (17 * counted (o .value)) (o .bytes)
+written (setClock t b) o = take (rowSize * counted (o .value)) (o .bytes)
 written (ask c) o = []
 written (list r) o = []
 

@@ -8,10 +8,10 @@ use Rattle.rules.specs.declared.Event.{Event}
 use Rattle.rules.specs.declared.Record.{Record}
 use Rattle.rules.specs.Lists.{over}
 use Rattle.rules.specs.Records.{noEntry, fresh, pad}
-use Rattle.rules.specs.Bytes.{big, flat, entryBytes}
+use Rattle.rules.specs.Bytes.{big, flat, entrySize, entryBytes}
 use Rattle.rules.specs.Refusals.{_if_, firstOf}
 use Rattle.rules.specs.Calls.{Call, addProgram, deliver, cancel, setClock, ask, list, Value, nothing, code, count, holder, default, nobody, Outcome, recordOf, call, counted}
-use Rattle.rules.specs.Image.{entrySize, imageSize, image, loaded, imaged}
+use Rattle.rules.specs.Image.{imageSize, image, loaded, imaged}
 
 -- an operation of a C host; its lent bytes stand beside it
 pub data Operation : Type 0 where

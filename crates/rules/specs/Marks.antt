@@ -10,7 +10,7 @@ use Rattle.rules.specs.declared.Record.{Record}
 use Rattle.rules.specs.declared.Schedule.{Schedule}
 use Rattle.rules.specs.Period.{periodOf}
 use Rattle.rules.specs.Rows.{Row}
-use Rattle.rules.specs.Bytes.{bytes}
+use Rattle.rules.specs.Bytes.{rowSize, bytes}
 use Rattle.rules.specs.Calls.{Call, addProgram, deliver, setClock, ask, Value, nothing, code, count, holder, default, nobody, Outcome, call, counted}
 
 abbrev pub buffer : List ℕ
@@ -117,7 +117,7 @@ periodsHold clock (p ∷ ps) (e ∷ es) =
 -- the rows of all clock calls
 abbrev pub rowsIn : List Reply → List ℕ
 rowsIn [] = []
-rowsIn (r ∷ rs) = take (17 * counted (r .value)) (r .bytes) ++ rowsIn rs
+rowsIn (r ∷ rs) = take (rowSize * counted (r .value)) (r .bytes) ++ rowsIn rs
 
 abbrev pub holderIds : Value → List ℕ
 holderIds nothing = []

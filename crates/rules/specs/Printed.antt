@@ -10,8 +10,8 @@ use Rattle.rules.specs.declared.Line.{Line}
 use Rattle.rules.specs.declared.Line.the-variants.{Good, Bad}
 use Rattle.rules.specs.declared.Schedule.{Schedule}
 use Rattle.rules.specs.Ascii.{ascii}
-use Rattle.rules.specs.Records.{idOf, fresh, pad}
-use Rattle.rules.specs.Bytes.{read}
+use Rattle.rules.specs.Records.{idSize, idNumber, idOf, fresh, pad}
+use Rattle.rules.specs.Bytes.{read, rowSize, rowsSize}
 use Rattle.rules.specs.Calls.{Value, nothing, code, count, holder, default, nobody, Outcome, call, counted}
 use Rattle.rules.specs.Frames.{lineOf, frameCall}
 
@@ -59,7 +59,8 @@ codeText clock i nobody = []
 -- the rows in a buffer
 unfoldable pub rowsText : ℕ → ℕ → List ℕ → List ℕ
 rowsText zero at b = []
-rowsText (suc n) at b = threeText (read 8 at b) (read 8 (at + 8) b) (read 1 (at + 16) b) ++ rowsText n (at + 17) b
+rowsText (suc n) at b =
+    threeText (read 8 at b) (read idSize (at + 8) b) (read 1 (at + (8 + idSize)) b) ++ rowsText n (at + rowSize) b
 
 -- a question: control event id, control default program, or control none
 abbrev pub askText : ℕ → Value → List ℕ
@@ -73,14 +74,14 @@ askText c nobody = digits c ++ (ascii " none" ++ lineFeed)
 -- an accepted frame
 abbrev pub frameText : ℕ → Frame → Outcome → List ℕ
 frameText clock (frame.Event e) o = codeText clock (idOf e) (o .value)
-frameText clock (frame.Cancel i) o = codeText clock (i .value) (o .value)
+frameText clock (frame.Cancel i) o = codeText clock (idNumber i) (o .value)
 frameText clock (frame.Clock t) o = rowsText (counted (o .value)) 0 (o .bytes)
 frameText clock (frame.Program n p d) o = []
 frameText clock (frame.Ask c) o = askText c (o .value)
 
--- a buffer that the rows of every clock call fit: 96 of 17 bytes
+-- a buffer that the rows of every clock call fit
 abbrev pub room : List ℕ
-room = replicate 1632 0
+room = replicate rowsSize 0
 
 -- what a line leaves and writes
 pub record Told : Type 0 where

@@ -96,7 +96,7 @@ impl Event {
     pub fn equals(self, other: Event) -> bool
         ensures { λ r. ⌜ r ≡ sameEvent self other ⌝ }
     {
-        (self.id.value == other.id.value)
+        self.id.equals(other.id)
             & (self.program == other.program)
             & (self.controls == other.controls)
             & (self.created == other.created)

@@ -7,7 +7,8 @@ use borrow.Author.Needs.{needs}
 use borrow.Author.Tests.{eq-eqb, ne-eqb, not-true, not-false}
 use lib.ListN.{length}
 use Rattle.rules.specs.Records.{mostEvents}
-use Rattle.rules.specs.Image.{entrySize, imageSize, marked, formed}
+use Rattle.rules.specs.Bytes.{entrySize}
+use Rattle.rules.specs.Image.{imageSize, marked, formed}
 use Rattle.image.specs.Exchange.{readOf}
 use Rattle.image.proofs.read.Statement.{statement}
 use Rattle.image.proofs.read.Tie as tie
