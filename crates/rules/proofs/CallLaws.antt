@@ -19,7 +19,7 @@ use Rattle.rules.specs.Moments.{advance, passed}
 use Rattle.rules.specs.Bytes.{bytes, flat}
 use Rattle.rules.specs.Sound.{malformed, sameEvent, sound}
 use Rattle.rules.specs.Refusals.{Check, firstOf, find, programChecks, eventChecks, cancelChecks, clockChecks, askChecks, listChecks}
-use Rattle.rules.specs.Calls.{Call, addProgram, deliver, cancel, setClock, ask, list, code, count, entryId, withEntries, mark, cancelCode, does, checks, refusal, accepts, accepted, refused, lentBytes, lentList, call}
+use Rattle.rules.specs.Calls.{program, event, cancellation, question, Call, bare, addProgram, deliver, cancel, setClock, ask, list, code, count, entryId, withEntries, mark, cancelCode, does, checks, refusal, accepts, accepted, refused, lentBytes, lentList, call}
 use Rattle.rules.specs.Clauses.{Fit, CallClauses}
 use Rattle.rules.proofs.Tests.{each-true, first-not}
 use Rattle.rules.proofs.SoundState.{Sound, ById, same-event, view-pad, sound-pad, sound-view, pad-view, rules}
@@ -70,11 +70,11 @@ not-given (c ∷ cs) e z = let r = each-true (not (eqb (c .number) 2)) _ e in go
 
 pub not-two : (s : State) (c : Call) → firstOf (checks s c) ≡ 2 → ⊥
 unfolding checks programChecks eventChecks cancelChecks clockChecks askChecks listChecks
-not-two s (addProgram n p d) e = not-given (programChecks s n p) refl e
-not-two s (deliver v) e = not-given (eventChecks s v (find (idOf v) (s .entries))) refl e
-not-two s (cancel i) e = not-given (cancelChecks (find i (s .entries))) refl e
+not-two s (bare (program n p d)) e = not-given (programChecks s n p) refl e
+not-two s (bare (event v)) e = not-given (eventChecks s v (find (idOf v) (s .entries))) refl e
+not-two s (bare (cancellation i)) e = not-given (cancelChecks (find i (s .entries))) refl e
+not-two s (bare (question k)) e = not-given (askChecks k) refl e
 not-two s (setClock t b) e = not-given (clockChecks (s .clock) t (length (passed s t .rows)) (length b)) refl e
-not-two s (ask k) e = not-given (askChecks k) refl e
 not-two s (list r) e = not-given (listChecks (length (s .entries)) (length r)) refl e
 
 -- an accepted call on a sound schedule

@@ -7,9 +7,9 @@ use lib.ListN.{length}
 use borrow.Author.Tests.{eq-eqb, ne-eqb}
 use Rattle.rules.specs.declared.Answer.{Answer}
 use Rattle.rules.specs.declared.Answer.the-variants.{Refused, Code, Count, Holder, Default, Nobody}
-use Rattle.rules.specs.Records.{fresh, pad}
+use Rattle.rules.specs.Records.{idFrom, fresh, pad}
 use Rattle.rules.specs.Image.{imageSize, image, loaded, imaged}
-use Rattle.rules.specs.Calls.{Value, nothing, code, count, holder, default, nobody, numberOf, valueOf, call}
+use Rattle.rules.specs.Calls.{Governor, byEvent, byProgram, byNone, Value, nothing, code, count, governor, numberOf, valueOf, call}
 use Rattle.rules.specs.Face.{Operation, asCall, idTooLong, shown, negative, lentAfter, face, faceFresh}
 use Rattle.rules.specs.Clauses.{AnswerClause, FaceClauses, ImageKept}
 use Rattle.rules.proofs.SoundState.{sound-pad}
@@ -19,13 +19,16 @@ use Rattle.rules.proofs.Images.{fresh-fits, image-kept}
 -- Answers.
 
 -- the answer that a number and a value stand for
+abbrev governorAnswer : Governor → Answer
+governorAnswer (byEvent i) = Holder (idFrom i)
+governorAnswer (byProgram p) = Default p
+governorAnswer byNone = Nobody
+
 abbrev answerOf : ℕ → Value → Answer
 answerOf n nothing = Refused n
 answerOf n (code k) = Code k
 answerOf n (count k) = Count k
-answerOf n (holder i) = Holder (record { value = i })
-answerOf n (default p) = Default p
-answerOf n nobody = Nobody
+answerOf n (governor g) = governorAnswer g
 
 read-back : (a : Answer) → answerOf (numberOf a) (valueOf a) ≡ a
 read-back (Refused n) = refl
@@ -50,13 +53,13 @@ module _ (l : List ℕ) (op : Operation) (lent : List ℕ) where
   unfolding face
   unchanged e f = let z = ne-eqb (call (loaded l) (asCall op lent) .number) 0 f in rw (e, z) (rw z)
 
-  same : imaged l ≡ true → call (loaded l) (asCall op lent) .number ≡ 0 → idTooLong op (call (loaded l) (asCall op lent) .value) (length lent) ≡ false
+  same : imaged l ≡ true → call (loaded l) (asCall op lent) .number ≡ 0 → idTooLong (call (loaded l) (asCall op lent) .value) (length lent) ≡ false
       → face l op lent
       ≡ record { returned = shown (call (loaded l) (asCall op lent) .value); image = image (call (loaded l) (asCall op lent) .state); lent = lentAfter op (call (loaded l) (asCall op lent)) lent }
   unfolding face
   same e z f = rw (e, z, f)
 
-  too-short : imaged l ≡ true → call (loaded l) (asCall op lent) .number ≡ 0 → idTooLong op (call (loaded l) (asCall op lent) .value) (length lent) ≡ true
+  too-short : imaged l ≡ true → call (loaded l) (asCall op lent) .number ≡ 0 → idTooLong (call (loaded l) (asCall op lent) .value) (length lent) ≡ true
       → face l op lent ≡ record { returned = negative 13; image = l; lent = lent }
   unfolding face
   too-short e z f = rw (e, z, f)

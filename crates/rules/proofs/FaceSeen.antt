@@ -31,7 +31,7 @@ use Rattle.rules.proofs.Evaluated.{same-lists}
 -- the face, of whether the bytes are an image and of what the call on its schedule gives
 abbrev faced : List ℕ → Operation → List ℕ → Bool → Outcome → FaceOutcome
 faced l op lent whole o =
-    let n = firstOf (2 if not whole ∷ o .number if not (eqb (o .number) 0) ∷ 13 if idTooLong op (o .value) (length lent) ∷ []) in
+    let n = firstOf (2 if not whole ∷ o .number if not (eqb (o .number) 0) ∷ 13 if idTooLong (o .value) (length lent) ∷ []) in
     cond (eqb n 0)
     (record { returned = shown (o .value); image = image (o .state); lent = lentAfter op o lent })
     (record { returned = negative n; image = l; lent = lent })

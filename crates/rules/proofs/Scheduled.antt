@@ -20,7 +20,7 @@ use Rattle.rules.specs.Moments.{passed}
 use Rattle.rules.specs.Bytes.{bytes, flat}
 use Rattle.rules.specs.Sound.{malformed, sameEvent}
 use Rattle.rules.specs.Refusals.{firstOf, find, late, programChecks, eventChecks, clockChecks}
-use Rattle.rules.specs.Calls.{Call, addProgram, deliver, cancel, setClock, ask, list, programOf, receive, withEntries, mark, does, checks, refusal, accepts, accepted, refused, Outcome, call, run, written, joined}
+use Rattle.rules.specs.Calls.{program, event, cancellation, question, Call, bare, addProgram, deliver, cancel, setClock, ask, list, programOf, receive, withEntries, mark, does, checks, refusal, accepts, accepted, refused, Outcome, call, run, written, joined}
 use Rattle.rules.specs.History.{Added, Brought, History, noHistory, broughtId, known, bring, cancelBrought, note, acceptedCalls, historyFrom, historyOf}
 use Rattle.rules.specs.Schedules.{Timed, timed, living, seen, rowsTo, heldEvents, programsOf, timesOf, stateAt, stateOf, rowsOf}
 use Rattle.rules.proofs.Tests.{both, either-false, first-not}
@@ -177,20 +177,17 @@ module _ (H : History) (v : Inv H) where
 
   next-accepted : (a : Call) → eqb (firstOf (checks (stateOf H) a)) 0 ≡ true → Next H (does (stateOf H) a .state) (written a (accepted (does (stateOf H) a))) (note H a)
   unfolding checks does note
-  next-accepted (addProgram n p d) ok = next-program n p d ok
-  next-accepted (deliver e) ok = next-deliver e (find (idOf e) (heldEvents ps ts c)) refl ok
-  next-accepted (cancel i) ok = next-cancel i
+  next-accepted (bare (program n p d)) ok = next-program n p d ok
+  next-accepted (bare (event e)) ok = next-deliver e (find (idOf e) (heldEvents ps ts c)) refl ok
+  next-accepted (bare (cancellation i)) ok = next-cancel i
+  next-accepted (bare (question k)) ok = stay H v
   next-accepted (setClock t b) ok = next-clock t b (reached t (length (passed (stateOf H) t .rows)) (length b) ok)
-  next-accepted (ask k) ok = stay H v
   next-accepted (list r) ok = stay H v
 
 -- a refused call wrote nothing
 written-refused : (s : Schedule) (a : Call) → written a (refused s a) ≡ []
-written-refused s (addProgram n p d) = refl
-written-refused s (deliver e) = refl
-written-refused s (cancel i) = refl
+written-refused s (bare k) = refl
 written-refused s (setClock t b) = refl
-written-refused s (ask k) = refl
 written-refused s (list r) = refl
 
 -- from a history to the next, of schedules by value

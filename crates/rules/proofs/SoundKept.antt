@@ -22,7 +22,7 @@ use Rattle.rules.specs.Holding.{rankOf, better, claim, taken, heldAt, ho
 use Rattle.rules.specs.Moments.{Moved, lasts, entriesFrom, second, advance, passed}
 use Rattle.rules.specs.Sound.{malformed, sound}
 use Rattle.rules.specs.Refusals.{firstOf, find, late, programChecks, eventChecks, clockChecks}
-use Rattle.rules.specs.Calls.{Call, addProgram, deliver, cancel, setClock, ask, list, entryId, entry, mark, receive, withEntries, programOf, does, checks, refusal, accepts, accepted, refused, call}
+use Rattle.rules.specs.Calls.{program, event, cancellation, question, Call, bare, addProgram, deliver, cancel, setClock, ask, list, entryId, entry, mark, receive, withEntries, programOf, does, checks, refusal, accepts, accepted, refused, call}
 use Rattle.rules.specs.Arrival.{Apart}
 use Rattle.rules.proofs.Tests.{both, either-false, each-true, first-not}
 use Rattle.rules.proofs.ListLaws.{in-keep, all-map, in-insert, asc-insert, asc-keep, asc-map, asc-weaken, keep-length, insert-length, in-set, in-replicate}
@@ -194,11 +194,11 @@ module _ (s : State) (v : Sound s) where
   -- every accepted call keeps the rules
   pub sound-does : (a : Call) → eqb (firstOf (checks s a)) 0 ≡ true → Sound (does s a .state)
   unfolding checks does
-  sound-does (addProgram n p d) ok = sound-program n p d ok
-  sound-does (deliver e) ok = sound-deliver e (find (idOf e) (s .entries)) refl ok
-  sound-does (cancel i) ok = sound-cancel i
+  sound-does (bare (program n p d)) ok = sound-program n p d ok
+  sound-does (bare (event e)) ok = sound-deliver e (find (idOf e) (s .entries)) refl ok
+  sound-does (bare (cancellation i)) ok = sound-cancel i
+  sound-does (bare (question c)) ok = v
   sound-does (setClock t b) ok = sound-clock t (length (passed s t .rows)) (length b) ok
-  sound-does (ask c) ok = v
   sound-does (list r) ok = v
 
 pub sound-fresh : Sound fresh

@@ -211,11 +211,11 @@ pub record FaceClauses : Type 0 where
       → face l op lent ≡ record { returned = negative (call (loaded l) (asCall op lent) .number); image = l; lent = lent }
   -- a call that is accepted by value answers and leaves the image as that call does; a question's holder needs room for its id
   pub same : (l : List ℕ) (op : Operation) (lent : List ℕ) → imaged l ≡ true → call (loaded l) (asCall op lent) .number ≡ 0
-      → idTooLong op (call (loaded l) (asCall op lent) .value) (length lent) ≡ false
+      → idTooLong (call (loaded l) (asCall op lent) .value) (length lent) ≡ false
       → face l op lent ≡ record { returned = shown (call (loaded l) (asCall op lent) .value); image = image (call (loaded l) (asCall op lent) .state); lent = lentAfter op (call (loaded l) (asCall op lent)) lent }
   -- a question whose holder's id does not fit is refused with 13, and no byte changes
   pub too-short : (l : List ℕ) (op : Operation) (lent : List ℕ) → imaged l ≡ true → call (loaded l) (asCall op lent) .number ≡ 0
-      → idTooLong op (call (loaded l) (asCall op lent) .value) (length lent) ≡ true
+      → idTooLong (call (loaded l) (asCall op lent) .value) (length lent) ≡ true
       → face l op lent ≡ record { returned = negative 13; image = l; lent = lent }
   -- the fresh image is accepted, and is that of the fresh schedule
   pub fresh : (l : List ℕ) → length l ≡ imageSize → (imaged (faceFresh l .image) ≡ true) × (loaded (faceFresh l .image) ≡ pad fresh)

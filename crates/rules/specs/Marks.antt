@@ -11,7 +11,7 @@ use Rattle.rules.specs.declared.Schedule.{Schedule}
 use Rattle.rules.specs.Period.{periodOf}
 use Rattle.rules.specs.Rows.{Row}
 use Rattle.rules.specs.Bytes.{rowSize, bytes}
-use Rattle.rules.specs.Calls.{Call, addProgram, deliver, setClock, ask, Value, nothing, code, count, holder, default, nobody, Outcome, call, counted}
+use Rattle.rules.specs.Calls.{Call, addProgram, deliver, setClock, ask, Governor, byEvent, byProgram, byNone, Value, nothing, code, count, governor, Outcome, call, counted}
 
 abbrev pub buffer : List ℕ
 buffer = replicate 136 0
@@ -99,9 +99,7 @@ abbrev pub isCode : Value → ℕ → Bool
 isCode nothing k = eqb k 0
 isCode (code n) k = eqb n k
 isCode (count n) k = false
-isCode (holder i) k = false
-isCode (default p) k = false
-isCode nobody k = false
+isCode (governor g) k = false
 
 abbrev pub answersHold : List Answered → List Reply → Bool
 answersHold [] rs = true
@@ -119,18 +117,21 @@ abbrev pub rowsIn : List Reply → List ℕ
 rowsIn [] = []
 rowsIn (r ∷ rs) = take (rowSize * counted (r .value)) (r .bytes) ++ rowsIn rs
 
-abbrev pub holderIds : Value → List ℕ
-holderIds nothing = []
-holderIds (code n) = []
-holderIds (count n) = []
-holderIds (holder i) = i ∷ []
-holderIds (default p) = []
-holderIds nobody = []
+abbrev pub holderIds : Governor → List ℕ
+holderIds (byEvent i) = i ∷ []
+holderIds (byProgram p) = []
+holderIds byNone = []
+
+abbrev pub idsIn : Value → List ℕ
+idsIn nothing = []
+idsIn (code n) = []
+idsIn (count n) = []
+idsIn (governor g) = holderIds g
 
 -- the holders that the questions name
 abbrev pub holdersIn : List Reply → List ℕ
 holdersIn [] = []
-holdersIn (r ∷ rs) = holderIds (r .value) ++ holdersIn rs
+holdersIn (r ∷ rs) = idsIn (r .value) ++ holdersIn rs
 
 -- whether a case holds, of what `see` shows of a list of calls
 unfoldable pub caseHolds : (List Call → List Reply) → Case → Bool

@@ -12,7 +12,7 @@ use Rattle.rules.specs.declared.Schedule.{Schedule}
 use Rattle.rules.specs.Ascii.{ascii}
 use Rattle.rules.specs.Records.{idSize, idNumber, idOf, fresh, pad}
 use Rattle.rules.specs.Bytes.{read, rowSize, rowsSize}
-use Rattle.rules.specs.Calls.{Value, nothing, code, count, holder, default, nobody, Outcome, call, counted}
+use Rattle.rules.specs.Calls.{Governor, byEvent, byProgram, byNone, Value, nothing, code, count, governor, Outcome, call, counted}
 use Rattle.rules.specs.Frames.{lineOf, frameCall}
 
 -- the lines of a text: a line feed ends one, and the last may lack it
@@ -52,9 +52,7 @@ abbrev pub codeText : ℕ → ℕ → Value → List ℕ
 codeText clock i nothing = []
 codeText clock i (code k) = cond (eqb k 0) [] (threeText clock i k)
 codeText clock i (count n) = []
-codeText clock i (holder h) = []
-codeText clock i (default p) = []
-codeText clock i nobody = []
+codeText clock i (governor g) = []
 
 -- the rows in a buffer
 unfoldable pub rowsText : ℕ → ℕ → List ℕ → List ℕ
@@ -63,13 +61,16 @@ rowsText (suc n) at b =
     threeText (read 8 at b) (read idSize (at + 8) b) (read 1 (at + (8 + idSize)) b) ++ rowsText n (at + rowSize) b
 
 -- a question: control event id, control default program, or control none
+abbrev pub governorText : ℕ → Governor → List ℕ
+governorText c (byEvent i) = digits c ++ (ascii " event " ++ (digits i ++ lineFeed))
+governorText c (byProgram p) = digits c ++ (ascii " default " ++ (digits p ++ lineFeed))
+governorText c byNone = digits c ++ (ascii " none" ++ lineFeed)
+
 abbrev pub askText : ℕ → Value → List ℕ
 askText c nothing = []
 askText c (code k) = []
 askText c (count n) = []
-askText c (holder i) = digits c ++ (ascii " event " ++ (digits i ++ lineFeed))
-askText c (default p) = digits c ++ (ascii " default " ++ (digits p ++ lineFeed))
-askText c nobody = digits c ++ (ascii " none" ++ lineFeed)
+askText c (governor g) = governorText c g
 
 -- an accepted frame
 abbrev pub frameText : ℕ → Frame → Outcome → List ℕ
