@@ -19,7 +19,7 @@ use Rattle.rules.specs.Records.{mostEvents, idOf, has, view}
 use Rattle.rules.specs.Bytes.{read}
 use Rattle.rules.specs.Sound.{sound}
 use Rattle.rules.specs.Refusals.{find}
-use Rattle.rules.specs.Calls.{Value, Ranked, Call, addProgram, deliver, cancel, setClock, ask, list, cancelCode, received, bestDefault, defaultFor, holderIn, answerFor, counted, numberOf, valueOf, does, refusal, accepts, accepted, refused, Outcome, call}
+use Rattle.rules.specs.Calls.{program, event, cancellation, question, holder, Value, Ranked, Call, bare, entryId, addProgram, deliver, cancel, setClock, ask, list, cancelCode, received, bestDefault, defaultFor, holderIn, answerFor, counted, numberOf, valueOf, does, refusal, accepts, accepted, refused, Outcome, call}
 use Rattle.rules.specs.declared.Line.the-variants.{Good, Bad}
 use Rattle.rules.specs.Frames.{frameCall}
 use Rattle.rules.specs.Printed.{refusedText, threeText, codeText, rowsText, askText, frameText, room, tellFrame}
@@ -130,18 +130,18 @@ unfolding holderIn
 holder-counted c [] v h = h
 holder-counted c (x ∷ hs) v h = by (has (x .held) c) (holder-counted c hs v h)
   where
-    by : (t : Bool) → counted (holderIn c hs v) ≤ 96 → counted (cond t (Value.holder (x .event .id .value)) (holderIn c hs v)) ≤ 96
+    by : (t : Bool) → counted (holderIn c hs v) ≤ 96 → counted (cond t (holder (entryId x)) (holderIn c hs v)) ≤ 96
     by true g = omega arith
     by false g = g
 
 -- no call counts more than 96: rows are at most 96, held events at most 48
 pub call-counted : (s : Schedule) (c : Call) → counted (call s c .value) ≤ 96
 unfolding does answerFor
-call-counted s (addProgram n p d) = from-done s (addProgram n p d) (λ e. omega arith)
-call-counted s (deliver v) = from-done s (deliver v) (λ e. none-counted (find (idOf v) (view s .entries)))
-call-counted s (cancel i) = from-done s (cancel i) (λ e. cancel-counted (find i (view s .entries)))
+call-counted s (bare (program n p d)) = from-done s (addProgram n p d) (λ e. omega arith)
+call-counted s (bare (event v)) = from-done s (deliver v) (λ e. none-counted (find (idOf v) (view s .entries)))
+call-counted s (bare (cancellation i)) = from-done s (cancel i) (λ e. cancel-counted (find i (view s .entries)))
+call-counted s (bare (question c)) = from-done s (ask c) (λ e. holder-counted c (view s .entries) _ (default-counted (bestDefault c 0 (s .programs))))
 call-counted s (setClock t b) = from-done s (setClock t b) (λ e. few-rows s e t)
-call-counted s (ask c) = from-done s (ask c) (λ e. holder-counted c (view s .entries) _ (default-counted (bestDefault c 0 (s .programs))))
 call-counted s (list r) = from-done s (list r) (λ e. omega (arith, sound-view s e .room))
 
 -- A line.

@@ -29,9 +29,12 @@ unfoldable pub decimal : ℕ → ℕ → List ℕ
 decimal zero x = []
 decimal (suc n) x = cond (ltb x 10) ((48 + x) ∷ []) (decimal n (x / 10) ++ ((48 + x % 10) ∷ []))
 
--- a number below 2 ^ 64 has at most 20
+-- how many a printed number has at the most: all are below 2 ^ 64
+abbrev pub mostDigits : ℕ
+mostDigits = 20
+
 abbrev pub digits : ℕ → List ℕ
-digits x = decimal 20 x
+digits x = decimal mostDigits x
 
 abbrev pub space : List ℕ
 space = 32 ∷ []

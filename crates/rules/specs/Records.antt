@@ -36,9 +36,12 @@ lastControl = 31
 abbrev pub mostRows : ℕ
 mostRows = 2 * mostEvents
 
--- Records, id: how many bytes it has
+-- Records, id: how many bytes it has, and what each is below
 abbrev pub idSize : ℕ
 idSize = 8
+
+abbrev pub idLimit : ℕ
+idLimit = 2 ^ (8 * idSize)
 
 -- Records, id: the handle as one number, and the handle that a number is
 abbrev pub idNumber : Id → ℕ
