@@ -11,11 +11,11 @@ use Rattle.rules.specs.declared.Schedule.{Schedule}
 use Rattle.rules.specs.Records.{fresh, pad}
 use Rattle.rules.specs.Sound.{sound}
 use Rattle.rules.specs.Image.{imageSize, image, loaded, formed, imaged}
-use Rattle.rules.specs.Calls.{Call, Value, Outcome, numberOf, valueOf, counted, lentBytes, call}
-use Rattle.rules.specs.Face.{Operation, asCall, idTooLong, shown, negative, lentAfter, FaceOutcome, face}
+use Rattle.rules.specs.Calls.{Bare, Call, bare, Outcome, numberOf, valueOf, counted, lentBytes, call}
+use Rattle.rules.specs.Face.{Operation, makes, asCall, answerBytes, idTooLong, shown, negative, lentAfter, FaceOutcome, face}
 use Rattle.rules.proofs.Tests.{each-true}
 use Rattle.rules.proofs.CallLaws.{call-clauses}
-use Rattle.rules.proofs.FaceLaws.{face-clauses}
+use Rattle.rules.proofs.FaceLaws.{isQuestion, no-id, id-fits, face-clauses}
 use Rattle.image.specs.declared.Loaded.{Loaded}
 use Rattle.image.specs.Exchange.{noImage, readOf, writtenTo}
 use Rattle.calls.specs.declared.Answered.{Answered}
@@ -87,7 +87,7 @@ module _ {l : List ℕ} {b : Loaded} (f : Formed l b) where
 
   module _ (op : Operation) (lent : List ℕ) where
     -- the face is what it shows of the outcome by value
-    pub face-is : {o : Outcome} → o ≡ call (b .schedule) (asCall op lent) → idTooLong op (o .value) (length lent) ≡ false → face l op lent ≡ faced l op lent o
+    pub face-is : {o : Outcome} → o ≡ call (b .schedule) (asCall op lent) → idTooLong (o .value) (length lent) ≡ false → face l op lent ≡ faced l op lent o
     face-is {o} p long = by (sound (loaded l)) (eqb (o .number) 0) refl refl
       where
         q : o ≡ call (loaded l) (asCall op lent)
@@ -123,11 +123,11 @@ written-as s l {t} {m} q = by (eqb (length l) imageSize) q
 -- An operation that stores what its call left. Its lent bytes are those that the call was lent.
 pub stored : {l : List ℕ} {b : Loaded} → Formed l b → (op : Operation) (lent : List ℕ) (a : Answered) {after : List ℕ} {records : List Record}
     → outcomeOf a after records ≡ call (b .schedule) (asCall op lent)
-    → ((v : Value) → idTooLong op v (length lent) ≡ false) → lentAfter op (outcomeOf a after records) lent ≡ after → lentBytes (asCall op lent) ≡ lent
+    → isQuestion (asCall op lent) ≡ false → lentAfter op (outcomeOf a after records) lent ≡ after → lentBytes (asCall op lent) ≡ lent
     → {r : ℕ} {m : List ℕ} → (r, m) ≡ finished a l → faceOf r m after ≡ face l op lent
 unfolding finished returnedFor
-stored {l} f op lent a {after} {records} q fits kept whole p =
-    ap (λ (x : ℕ × List ℕ). faceOf (x .0) (x .1) after) p ∙ by (eqb (numberOf (a .answer)) 0) refl ∙ sym (face-is f op lent q (fits (valueOf (a .answer))))
+stored {l} {b} f op lent a {after} {records} q told kept whole p =
+    ap (λ (x : ℕ × List ℕ). faceOf (x .0) (x .1) after) p ∙ by (eqb (numberOf (a .answer)) 0) refl ∙ sym (face-is f op lent q (rw (ap (λ (o : Outcome). o .value) q) (id-fits (b .schedule) (asCall op lent) told (length lent))))
   where
     by : (t : Bool) → eqb (numberOf (a .answer)) 0 ≡ t
         → faceOf (cond t (shown (valueOf (a .answer))) (negative (numberOf (a .answer)))) (cond t (image (a .schedule)) l) after
@@ -143,7 +143,6 @@ module _ (l : List ℕ) {b : Loaded} (e : b ≡ readOf l) (f : not (b .formed) �
   pub may-store : (c : Call) → outcomeOf a [] [] ≡ call (b .schedule) c → (counted (valueOf (a .answer)) ≤ 96) × (length l ≡ imageSize)
   may-store = small (formed-as l e f) a
 
-  pub stored-alone : (op : Operation) → outcomeOf a [] [] ≡ call (b .schedule) (asCall op [])
-      → ((v : Value) → idTooLong op v 0 ≡ false) → lentAfter op (outcomeOf a [] []) [] ≡ [] → lentBytes (asCall op []) ≡ []
-      → {r : ℕ} {m : List ℕ} → (r, m) ≡ finished a l → faceOf r m [] ≡ face l op []
-  stored-alone op = stored (formed-as l e f) op [] a
+  pub stored-alone : (c : Bare) → outcomeOf a [] [] ≡ call (b .schedule) (bare c) → isQuestion (bare c) ≡ false
+      → {r : ℕ} {m : List ℕ} → (r, m) ≡ finished a l → faceOf r m [] ≡ face l (makes c) []
+  stored-alone c q told = stored (formed-as l e f) (makes c) [] a q told (rw (ap (λ (o : Outcome). answerBytes (o .value)) q ∙ no-id (b .schedule) (bare c) told)) refl

@@ -24,7 +24,7 @@ returns-2 c =
     let r = d .before .before .before .before .before in
     let a = r .before .before .before .before .args in
     let f = formed-as (a .image .now) (r .read .ensures) (d .before .before .before .if1 .left) in
-    stored f _ (a .rows .now) (d .set-clock .result) (d .set-clock .ensures) (λ v. refl) refl refl (c .before .before .finish .ensures)
+    stored f _ (a .rows .now) (d .set-clock .result) (d .set-clock .ensures) refl refl refl (c .before .before .finish .ensures)
 
 pub hadulmir-set-clock-spec : {M : Type 1} → statement M
 hadulmir-set-clock-spec =
