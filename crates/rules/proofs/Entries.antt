@@ -9,13 +9,14 @@ use lib.Dec.{eqb}
 use lib.ListN.{length, drop}
 use Rattle.rules.specs.declared.Event.{Event}
 use Rattle.rules.specs.declared.Entry.{Entry}
-use Rattle.rules.specs.Records.{idOf, noEntry}
+use Rattle.rules.specs.Records.{idSize, idLimit, idOf, noEvent, noEntry}
 use Rattle.rules.specs.Bytes.{big, read, eventAt, eventBytes, entryAt, entryBytes, flag}
-use Rattle.rules.proofs.Numbers.{Bytes, read-big, read-drop, piece, Inverse}
+use Rattle.rules.proofs.IdLaws.{number-id, id-number}
+use Rattle.rules.proofs.Numbers.{Bytes, read-below, read-big, read-drop, piece, Inverse}
 
 -- each field fits its width
 pub record FitsEvent (e : Event) : Type 0 where
-  pub id : idOf e < 256 ^ 8
+  pub id : idOf e < idLimit
   pub program : e .program < 256 ^ 1
   pub controls : e .controls < 256 ^ 4
   pub created : e .created < 256 ^ 4
@@ -33,7 +34,7 @@ pub record FitsEntry (h : Entry) : Type 0 where
 
 -- a place that is not in use
 pub none-fits : FitsEntry noEntry
-none-fits = search needs
+none-fits = let zero : idOf noEvent ≡ 0 = number-id 0 (omega arith) in search needs
 
 pub entry-size : (h : Entry) → length (entryBytes h) ≡ 46
 unfolding entryBytes eventBytes big
@@ -44,7 +45,8 @@ pub event-of-bytes : (e : Event) → FitsEvent e → (r : List ℕ) → eventAt 
 unfolding eventAt eventBytes read big
 event-of-bytes e f r =
     rw (
-      read-big 8 (idOf e) (f .id),
+      read-big idSize (idOf e) (f .id),
+      id-number (e .id),
       read-big 1 (e .program) (f .program),
       read-big 4 (e .controls) (f .controls),
       read-big 4 (e .created) (f .created),
@@ -93,7 +95,7 @@ module _ (l : List ℕ) (b : Bytes l) where
   pub event-piece : 33 ≤ length l → eventBytes (eventAt 0 l) ++ drop 33 l ≡ l
   unfolding eventAt eventBytes
   event-piece h =
-      simp append-assoc
+      simp (append-assoc, number-id (read idSize 0 l) (read-below l b idSize 0))
       (rw (
         piece l b 2 31 (omega arith),
         piece l b 2 29 (omega arith),

@@ -1,5 +1,5 @@
 -- The C face does what the call by value does, and its numbers and values tell answers apart.
-use mathlib.Core.Path.{_≡_, refl, sym, ap₂, _∙_}
+use mathlib.Core.Path.{_≡_, refl, sym, ap, ap₂, _∙_}
 use Prim.Native.Nat.{ℕ}
 use mathlib.Core.Bool.{Bool, true, false, cond}
 use mathlib.Core.List.{List, []}
@@ -18,6 +18,7 @@ use Rattle.rules.specs.Calls.{program, event, cancellation, question, Ca
 use Rattle.rules.specs.Face.{Operation, asCall, answerBytes, idTooLong, shown, negative, lentAfter, face, faceFresh}
 use Rattle.rules.specs.Clauses.{AnswerClause, FaceClauses, ImageKept}
 use Rattle.rules.proofs.Tests.{both}
+use Rattle.rules.proofs.IdLaws.{id-number}
 use Rattle.rules.proofs.SoundState.{sound-pad}
 use Rattle.rules.proofs.SoundKept.{sound-fresh}
 use Rattle.rules.proofs.Images.{fresh-fits, image-kept}
@@ -40,7 +41,7 @@ read-back : (a : Answer) → answerOf (numberOf a) (valueOf a) ≡ a
 read-back (Refused n) = refl
 read-back (Code k) = refl
 read-back (Count k) = refl
-read-back (Holder i) = refl
+read-back (Holder i) = ap Holder (id-number i)
 read-back (Default p) = refl
 read-back Nobody = refl
 

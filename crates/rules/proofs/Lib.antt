@@ -1,6 +1,7 @@
 -- What belongs to no one function.
 pub mod Tests
 pub mod ListLaws
+pub mod IdLaws
 pub mod Over
 pub mod Copying
 pub mod Masks

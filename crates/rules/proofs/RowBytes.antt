@@ -1,13 +1,12 @@
 -- The bytes of rows: 17 for each, so that what was written over a buffer is read again.
-use mathlib.Core.Path.{_≡_, refl, ap, _∙_}
+use mathlib.Core.Path.{_≡_, refl}
 use Prim.Native.Nat.{ℕ, _*_}
 use mathlib.Core.List.{List, [], _∷_, _++_, append-assoc}
-use native.Mathlib.Omega.{arith}
 use lib.ListN.{length, take, drop, length-append}
 use lib.Seq.{take-at}
 use Rattle.rules.specs.Lists.{over}
 use Rattle.rules.specs.Rows.{Row}
-use Rattle.rules.specs.Bytes.{big, flat, rowBytes, bytes}
+use Rattle.rules.specs.Bytes.{flat, rowBytes, bytes}
 use Rattle.rules.proofs.Numbers.{big-length, flat-length}
 
 row-length : (r : Row) → length (rowBytes r) ≡ 17

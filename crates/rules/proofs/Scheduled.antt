@@ -1,32 +1,32 @@
 -- Theorem A: every list of calls gives what the schedule of its history gives. By induction along the list: each call keeps the state that of the history.
 use mathlib.Core.Path.{_≡_, refl, sym, ap, _∙_, subst}
-use mathlib.Core.Logic.{_⊎_, inl, inr}
-use Prim.Native.Nat.{ℕ, _+_, _-_, _*_, _<_, _≤_}
-use mathlib.Core.Bool.{Bool, true, false, cond, not, _||_, _&&_, or-true}
+use mathlib.Core.Logic.{inl, inr}
+use Prim.Native.Nat.{ℕ, _+_, _-_, _*_, _≤_}
+use mathlib.Core.Bool.{Bool, true, false, cond, not, _||_, or-true}
 use mathlib.Core.List.{List, [], _∷_, _++_, map, map-map, append-assoc, append-nil}
 use mathlib.Core.Option.{Option, none, some}
 use native.Mathlib.Omega.{arith}
-use lib.Dec.{ltb, leb, eqb}
+use lib.Dec.{ltb, eqb}
 use lib.ListN.{set, length, take}
-use borrow.Author.Tests.{ltb-false, not-false, eqb-true}
+use borrow.Author.Tests.{ltb-false, not-false}
 use Rattle.rules.specs.declared.Event.{Event}
 use Rattle.rules.specs.declared.Entry.{Entry}
 use Rattle.rules.specs.declared.Program.{Program}
 use Rattle.rules.specs.declared.Schedule.{Schedule}
-use Rattle.rules.specs.Lists.{keep, insert, over, In, All}
+use Rattle.rules.specs.Lists.{keep, over, In}
 use Rattle.rules.specs.Records.{State, idOf, lastClock, programAt, fresh, pad}
 use Rattle.rules.specs.Period.{effectiveEnd}
 use Rattle.rules.specs.Moments.{passed}
-use Rattle.rules.specs.Bytes.{bytes, flat}
+use Rattle.rules.specs.Bytes.{bytes}
 use Rattle.rules.specs.Sound.{malformed, sameEvent}
 use Rattle.rules.specs.Refusals.{firstOf, find, late, programChecks, eventChecks, clockChecks}
-use Rattle.rules.specs.Calls.{program, event, cancellation, question, Call, bare, addProgram, deliver, cancel, setClock, ask, list, programOf, receive, withEntries, mark, does, checks, refusal, accepts, accepted, refused, Outcome, call, run, written, joined}
+use Rattle.rules.specs.Calls.{program, event, cancellation, question, Call, bare, setClock, list, programOf, receive, withEntries, mark, does, checks, accepts, accepted, refused, Outcome, call, run, written, joined}
 use Rattle.rules.specs.History.{Added, Brought, History, noHistory, broughtId, known, bring, cancelBrought, note, acceptedCalls, historyFrom, historyOf}
 use Rattle.rules.specs.Schedules.{Timed, timed, living, seen, rowsTo, heldEvents, programsOf, timesOf, stateAt, stateOf, rowsOf}
 use Rattle.rules.proofs.Tests.{both, either-false, first-not}
 use Rattle.rules.proofs.ListLaws.{in-keep, in-map, map-in, insert-map}
 use Rattle.rules.proofs.Local.{timedId, cancelTimed, rows-deliver, rows-cancel, rows-program}
-use Rattle.rules.proofs.Second.{Past, past-on, advance-state, advance-rows}
+use Rattle.rules.proofs.Second.{past-on, advance-state, advance-rows}
 use Rattle.rules.proofs.Kept.{Kept, ends, begins-later, late-not, over-before, new, kept-deliver, entries-deliver, kept-cancel, entries-cancel, kept-program, ranked, entries-program}
 use Rattle.rules.proofs.RowBytes.{bytes-append, bytes-read}
 use Rattle.rules.proofs.SoundState.{Sound, same-event}
@@ -49,13 +49,13 @@ in-known e (x ∷ bs) b (inl q) d = rw (sym (ap (λ b. b .event) q) ∙ d, event
 in-known e (x ∷ bs) b (inr m) d = rw (in-known e bs b m d, or-true)
 
 -- each program has a number of its own, at most 7
-abbrev pub Numbered : List Added → Type 0
-Numbered [] = Unit {0}
-Numbered (a ∷ rest) = (a .number ≤ 7) × (programAt (programsOf rest) (a .number) .added ≡ false) × Numbered rest
+abbrev pub OnceEach : List Added → Type 0
+OnceEach [] = Unit {0}
+OnceEach (a ∷ rest) = (a .number ≤ 7) × (programAt (programsOf rest) (a .number) .added ≡ false) × OnceEach rest
 
 pub record Inv (H : History) : Type 0 where
   pub kept : Kept (programsOf (H .programs)) (timesOf H) (H .last)
-  pub numbered : Numbered (H .programs)
+  pub numbered : OnceEach (H .programs)
 
 -- from a history to the next: the state that the call leaves, and the bytes of its rows
 pub record Next (H : History) (s : State) (w : List ℕ) (K : History) : Type 0 where

@@ -1,11 +1,10 @@
 -- Frames and image, C hosts: every operation on an image as bytes. It answers, and leaves the image, as the same call by value does.
 use Prim.Native.Nat.{ℕ, _+_, _-_, _^_, _/_}
-use mathlib.Core.Bool.{Bool, true, false, cond, not, _&&_}
+use mathlib.Core.Bool.{Bool, cond, not}
 use mathlib.Core.List.{List, [], _∷_}
 use lib.Dec.{ltb, eqb}
 use lib.ListN.{length, take, replicate}
 use Rattle.rules.specs.declared.Event.{Event}
-use Rattle.rules.specs.declared.Record.{Record}
 use Rattle.rules.specs.Lists.{over}
 use Rattle.rules.specs.Records.{idSize, noEntry, fresh, pad}
 use Rattle.rules.specs.Bytes.{big, flat, entrySize, entryBytes}

@@ -8,6 +8,7 @@ use Rattle.rules.specs.declared.Event.{Event}
 use Rattle.rules.specs.declared.Period.{Period}
 use Rattle.rules.specs.declared.Record.{Record}
 use Rattle.rules.specs.declared.Schedule.{Schedule}
+use Rattle.rules.specs.Records.{eventOf}
 use Rattle.rules.specs.Period.{periodOf}
 use Rattle.rules.specs.Rows.{Row}
 use Rattle.rules.specs.Bytes.{rowSize, bytes}
@@ -20,29 +21,13 @@ buffer = replicate 136 0
 abbrev pub minus : ℕ → ℕ
 minus k = 65536 - k
 
--- an event: id, program, controls, creation time, start, duration, randomisations, draws
-abbrev pub eventWith : ℕ → ℕ → ℕ → ℕ → ℕ → ℕ → ℕ → ℕ → ℕ → ℕ → Event
-eventWith i program controls created start duration rs rd sd dd =
-    record {
-      id = record { value = i };
-      program = program;
-      controls = controls;
-      created = created;
-      start = start;
-      duration = duration;
-      «randomize_start» = rs;
-      «randomize_duration» = rd;
-      «start_draw» = sd;
-      «duration_draw» = dd;
-    }
-
 -- id, program, controls, creation time, start, duration; nothing drawn
 abbrev pub undrawn : ℕ → ℕ → ℕ → ℕ → ℕ → ℕ → Event
-undrawn i program controls created start duration = eventWith i program controls created start duration 0 0 0 0
+undrawn i program controls created start duration = eventOf i program controls created start duration 0 0 0 0
 
 -- id, program, controls, creation time, drawn start (the start 3,600 drawn back), duration
 abbrev pub drawnBack : ℕ → ℕ → ℕ → ℕ → ℕ → ℕ → Event
-drawnBack i program controls created start duration = eventWith i program controls created 3600 duration (minus 3600) 0 (minus (3600 - start)) 0
+drawnBack i program controls created start duration = eventOf i program controls created 3600 duration (minus 3600) 0 (minus (3600 - start)) 0
 
 -- what a host sees of a call
 pub record Reply : Type 0 where

@@ -41,13 +41,13 @@ abbrev pub idSize : ℕ
 idSize = 8
 
 abbrev pub idLimit : ℕ
-idLimit = 2 ^ (8 * idSize)
+idLimit = 256 ^ idSize
 
 -- Records, id: the handle as one number, and the handle that a number is
-abbrev pub idNumber : Id → ℕ
+unfoldable pub idNumber : Id → ℕ
 idNumber i = i .value
 
-abbrev pub idFrom : ℕ → Id
+unfoldable pub idFrom : ℕ → Id
 idFrom n = record { value = n }
 
 abbrev pub idOf : Event → ℕ
