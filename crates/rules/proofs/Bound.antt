@@ -13,7 +13,7 @@ use Rattle.rules.specs.declared.Entry.{Entry}
 use Rattle.rules.specs.declared.Program.{Program}
 use Rattle.rules.specs.declared.Schedule.{Schedule}
 use Rattle.rules.specs.Lists.{keep}
-use Rattle.rules.specs.Records.{State, view}
+use Rattle.rules.specs.Records.{State, view, mostRows}
 use Rattle.rules.specs.Holding.{claim, Holding, holdingAt, withHolding, endOf}
 use Rattle.rules.specs.Rows.{codeAt, rowOf, rowsWith, rowsFrom, rowsAt, ending, superseded, starting}
 use Rattle.rules.specs.Moments.{lasts, entriesFrom, Moved, second, advance, passed}
@@ -197,5 +197,5 @@ total-two : (t : ℕ) (hs : List Entry) → total t hs ≤ 2 * length hs
 total-two t [] = omega arith
 total-two t (h ∷ hs) = omega (arith, left-two t (h .begins) (h .held), total-two t hs)
 
-pub few-rows : (s : Schedule) → sound s ≡ true → (reading : ℕ) → length (passed (view s) reading .rows) ≤ 96
+pub few-rows : (s : Schedule) → sound s ≡ true → (reading : ℕ) → length (passed (view s) reading .rows) ≤ mostRows
 few-rows s e reading = omega (arith, advance-less (reading - s .clock) (view s), total-two (s .clock) (view s .entries), sound-view s e .room)

@@ -16,7 +16,7 @@ use Rattle.rules.specs.declared.Schedule.{Schedule}
 use Rattle.rules.specs.Lists.{each, In, Pairwise}
 use Rattle.rules.specs.Records.{State, idOf, lastClock, programAt, view, pad}
 use Rattle.rules.specs.Moments.{advance, passed}
-use Rattle.rules.specs.Bytes.{bytes, flat}
+use Rattle.rules.specs.Bytes.{bytes, flat, rowSize}
 use Rattle.rules.specs.Sound.{malformed, sameEvent, sound}
 use Rattle.rules.specs.Refusals.{Check, firstOf, find, programChecks, eventChecks, cancelChecks, clockChecks, askChecks, listChecks}
 use Rattle.rules.specs.Calls.{program, event, cancellation, question, Call, bare, deliver, cancel, setClock, list, code, count, entryId, withEntries, mark, cancelCode, does, checks, refusal, accepts, accepted, refused, lentBytes, lentList, call}
@@ -149,7 +149,7 @@ full s d e =
     )
 
 too-short : (s : Schedule) (t : ℕ) (b : List ℕ) → sound s ≡ true
-    → call s (setClock t b) .number ≡ 13 ↔ ((s .clock ≤ t) × (t ≤ lastClock) × (length b < 17 * length (passed (view s) t .rows)))
+    → call s (setClock t b) .number ≡ 13 ↔ ((s .clock ≤ t) × (t ≤ lastClock) × (length b < rowSize * length (passed (view s) t .rows)))
 unfolding checks
 too-short s t b e =
     let r = short-buffer (s .clock) t (length (passed (view s) t .rows)) (length b) in
@@ -166,7 +166,7 @@ unfolding checks clockChecks does advance flat
 same-reading s b e =
     let z : s .clock - s .clock ≡ 0 = omega arith in
     done s e (setClock (s .clock) b)
-    (rw (le-ltb (s .clock) (s .clock) (omega arith), le-ltb lastClock (s .clock) (rules s e .clock), z, le-ltb (length b) (17 * length (advance 0 (view s) .rows)) (omega arith)))
+    (rw (le-ltb (s .clock) (s .clock) (omega arith), le-ltb lastClock (s .clock) (rules s e .clock), z, le-ltb (length b) (rowSize * length (advance 0 (view s) .rows)) (omega arith)))
     ∙ rw z (ap (λ y. record { number = 0; value = count 0; state = y; bytes = b; records = [] }) (pad-view s e))
 
 pub call-clauses : CallClauses

@@ -17,7 +17,7 @@ use Rattle.rules.specs.Lists.{keep, over, In}
 use Rattle.rules.specs.Records.{State, idOf, lastClock, programAt, fresh, pad}
 use Rattle.rules.specs.Period.{effectiveEnd}
 use Rattle.rules.specs.Moments.{passed}
-use Rattle.rules.specs.Bytes.{bytes}
+use Rattle.rules.specs.Bytes.{bytes, rowSize}
 use Rattle.rules.specs.Sound.{malformed, sameEvent}
 use Rattle.rules.specs.Refusals.{firstOf, find, late, programChecks, eventChecks, clockChecks}
 use Rattle.rules.specs.Calls.{program, event, cancellation, question, Call, bare, setClock, list, programOf, receive, withEntries, mark, does, checks, accepts, accepted, refused, Outcome, call, run, written, joined}
@@ -152,7 +152,7 @@ module _ (H : History) (v : Inv H) where
       }
 
   next-clock : (t : ℕ) (b : List ℕ) → c ≤ t
-      → Next H (passed (stateOf H) t .state) (take (17 * length (passed (stateOf H) t .rows)) (over (bytes (passed (stateOf H) t .rows)) b)) (record { programs = H .programs; brought = H .brought; last = t })
+      → Next H (passed (stateOf H) t .state) (take (rowSize * length (passed (stateOf H) t .rows)) (over (bytes (passed (stateOf H) t .rows)) b)) (record { programs = H .programs; brought = H .brought; last = t })
   next-clock t b l =
       let there : c + (t - c) ≡ t = omega arith in
       record {

@@ -11,7 +11,7 @@ use Rattle.rules.specs.Moments.{entriesFrom, second, advance}
 use Rattle.rules.specs.Bytes.{big, read, flat, many, rowBytes, eventAt, eventBytes, entryBytes, entryAt}
 use Rattle.rules.specs.Sound.{outOfRange, malformed, sameEvent, whole, withinLimits, soundProgram, unused, ascending, ofProgram, wellFormed, inPeriod, lasting, carried, heldSinceStart, noneIfCancelled, apart, soundEntry, sound}
 use Rattle.rules.specs.Image.{programBytes, programFrom, image, loaded, marked, formed, imaged}
-use Rattle.rules.specs.ImageTable.{rulesHold, ruleTable, bytesHold, formsHold, formTable, refusedImages, numbersHold, numberTable, ImageTables}
+use Rattle.rules.specs.ImageTable.{rulesHold, ruleTable, bytesHold, sizesHold, formsHold, formTable, refusedImages, numbersHold, numberTable, ImageTables}
 use Rattle.rules.specs.Refusals.{find, late, programChecks, eventChecks, cancelChecks, clockChecks, askChecks, listChecks}
 use Rattle.rules.specs.Calls.{bestDefault, holderIn, answerFor, does, checks, refusal, call}
 use Rattle.rules.specs.Frames.{digit, paired, unhex, isFrame, frameOf, lineOf}
@@ -70,8 +70,12 @@ bytes-evaluate : bytesHold ≡ true
 unfolding bytesHold big read flat many rowBytes eventAt eventBytes entryBytes entryAt programBytes programFrom image loaded idNumber idFrom
 bytes-evaluate = refl
 
+sizes-evaluate : sizesHold ≡ true
+unfolding sizesHold
+sizes-evaluate = refl
+
 forms-evaluate : formsHold formTable ≡ true
-unfolding formsHold formTable read marked formed idNumber idFrom
+unfolding formsHold formTable read marked formed
 forms-evaluate = refl
 
 images-evaluate : refusedImages ≡ true
@@ -83,10 +87,10 @@ unfolding numbersHold numberTable call refusal checks does advance usable cut ha
 numbers-evaluate = refl
 
 pub image-tables : ImageTables
-image-tables = record { rules = rules-evaluate; bytes = bytes-evaluate; forms = forms-evaluate; refused = images-evaluate; numbers = numbers-evaluate }
+image-tables = record { rules = rules-evaluate; bytes = bytes-evaluate; sizes = sizes-evaluate; forms = forms-evaluate; refused = images-evaluate; numbers = numbers-evaluate }
 
 programs-evaluate : programsHold ≡ true
-unfolding programsHold idNumber idFrom
+unfolding programsHold
 programs-evaluate = refl
 
 schedules-evaluate : schedulesHold scheduleTable ≡ true

@@ -15,7 +15,7 @@ use Rattle.rules.specs.declared.Program.{Program}
 use Rattle.rules.specs.declared.Record.{Record}
 use Rattle.rules.specs.declared.Schedule.{Schedule}
 use Rattle.rules.specs.Lists.{In, All, Pairwise}
-use Rattle.rules.specs.Records.{State, idOf, has, lastClock, mostRows, programAt, fresh, view, pad}
+use Rattle.rules.specs.Records.{State, idOf, has, lastClock, mostEvents, mostRows, programAt, fresh, view, pad}
 use Rattle.rules.specs.Period.{effectiveEnd}
 use Rattle.rules.specs.Holding.{Rank, rankOf, better, heldAt, Holding, endOf}
 use Rattle.rules.specs.Rows.{Row, codeAt, Sooner}
@@ -169,7 +169,7 @@ pub record CallClauses : Type 0 where
   pub cancelled-again : (s : Schedule) (i : ℕ) → sound s ≡ true → call s (cancel i) .number ≡ 0
       → (call (call s (cancel i) .state) (cancel i) .number ≡ 0) × (call (call s (cancel i) .state) (cancel i) .value ≡ code 0)
   -- 10 is given at 48 held events and not before, to an event to which no number before 10 applies
-  pub full : (s : Schedule) (e : Event) → sound s ≡ true → call s (deliver e) .number ≡ 10 ↔ ((length (view s .entries) ≡ 48) × Fit (view s) e)
+  pub full : (s : Schedule) (e : Event) → sound s ≡ true → call s (deliver e) .number ≡ 10 ↔ ((length (view s .entries) ≡ mostEvents) × Fit (view s) e)
   -- 13 is given for a buffer that is shorter than the rows, and not for one that they fit; a reading that 12 refuses gets 12
   pub too-short : (s : Schedule) (t : ℕ) (b : List ℕ) → sound s ≡ true
       → call s (setClock t b) .number ≡ 13 ↔ ((s .clock ≤ t) × (t ≤ lastClock) × (length b < rowSize * length (passed (view s) t .rows)))

@@ -10,12 +10,13 @@ use Rattle.rules.specs.declared.Entry.{Entry}
 use Rattle.rules.specs.declared.Program.{Program}
 use Rattle.rules.specs.declared.Schedule.{Schedule}
 use Rattle.rules.specs.Lists.{overAt}
-use Rattle.rules.specs.Records.{noProgram, noEntry, eventOf}
+use Rattle.rules.specs.Records.{mostEvents, mostPrograms, lastProgram, lastControl, mostRows, idSize, idLimit, noProgram, noEntry, eventOf}
 use Rattle.rules.specs.Rows.{Row}
-use Rattle.rules.specs.Bytes.{rowBytes}
+use Rattle.rules.specs.Bytes.{rowSize, rowsSize, rowBytes, eventSize, entrySize, markAt}
 use Rattle.rules.specs.Sound.{sound}
 use Rattle.rules.specs.Calls.{Call, addProgram, deliver, cancel, setClock, ask, list, call}
-use Rattle.rules.specs.Image.{image, loaded, formed, imaged}
+use Rattle.rules.specs.Image.{programSize, programsAt, entriesAt, imageSize, image, loaded, formed, imaged}
+use Rattle.rules.specs.Frames.{eventFrame, cancelFrame, clockFrame, programFrame, askFrame}
 use Rattle.rules.specs.Script.{programNumbers, entryNumbers}
 use Rattle.rules.specs.Marks.{minus, same}
 
@@ -268,6 +269,17 @@ bytesHold =
     && same (numbers (loaded layoutBytes)) (numbers layout)
     && same (rowBytes rowLayout) (from 1 17)
 
+-- SIZES
+
+-- the sizes beside the numbers that document 01 gives for them
+unfoldable pub sizesHold : Bool
+sizesHold =
+    same (mostEvents ∷ mostPrograms ∷ lastProgram ∷ lastControl ∷ mostRows ∷ []) (48 ∷ 8 ∷ 7 ∷ 31 ∷ 96 ∷ [])
+    && same (idSize ∷ idLimit ∷ rowSize ∷ rowsSize ∷ []) (8 ∷ 0x10000000000000000 ∷ 17 ∷ 1632 ∷ [])
+    && same (eventSize ∷ entrySize ∷ markAt ∷ []) (33 ∷ 46 ∷ 45 ∷ [])
+    && same (programSize ∷ programsAt ∷ entriesAt ∷ imageSize ∷ []) (6 ∷ 9 ∷ 57 ∷ 2265 ∷ [])
+    && same (eventFrame ∷ cancelFrame ∷ clockFrame ∷ programFrame ∷ askFrame ∷ []) (34 ∷ 9 ∷ 9 ∷ 7 ∷ 2 ∷ [])
+
 -- LENGTHS AND MARKS
 
 -- bytes, and whether length and marks are an image's
@@ -327,6 +339,7 @@ pub record ImageTables : Type 0 where
   pub rules : rulesHold ruleTable ≡ true
   -- each byte stands where it belongs, and is read from there
   pub bytes : bytesHold ≡ true
+  pub sizes : sizesHold ≡ true
   -- lengths and marks
   pub forms : formsHold formTable ≡ true
   pub refused : refusedImages ≡ true

@@ -32,8 +32,8 @@ pub const MOST_ROWS: usize = 2 * Schedule::EVENTS;
 
 pub const ROWS_SIZE: usize = MOST_ROWS * ROW_SIZE;
 
-// Records. An id: the host's handle of an event. Definitions read it as one number (`idNumber`). Code outside this crate can't look inside: ids.rt has what there is to
-// do with one, crates/octets its bytes, crates/text its digits.
+// Records. An id: the host's handle of an event. Definitions read it as one number (`idNumber`). Code outside this crate can't look inside: ids.rt has what
+// can be done with one, crates/octets its bytes, crates/text its digits.
 pub struct Id {
     pub value: u64,
 }
@@ -215,7 +215,8 @@ pub fn bench_marks()
     ensures { λ _. ⌜ allHold (replies (pad fresh)) table ≡ true ⌝ }
 {}
 
-// Numbers given: 3 to 14, each given on the one side of its edge and not on the other. Number 1 is in `lines_read` and `texts_printed`, number 2 in `images_tried`.
+// Numbers given: 3 to 14, each given on the one side of its edge and not on the other. Number 1 is in `lines_read` and `texts_printed`, number 2 in
+// `images_tried`.
 pub fn number_edges()
     ensures { λ _. ⌜ edgesHold (replies (pad fresh)) edges ≡ true ⌝ }
 {}
