@@ -13,7 +13,7 @@ use Rattle.rules.specs.declared.Entry.{Entry}
 use Rattle.rules.specs.declared.Program.{Program}
 use Rattle.rules.specs.declared.Schedule.{Schedule}
 use Rattle.rules.specs.Lists.{keep, Pairwise}
-use Rattle.rules.specs.Records.{noEntry, view, pad}
+use Rattle.rules.specs.Records.{noEntry, view, pad, mostEvents}
 use Rattle.rules.specs.Bytes.{bytes}
 use Rattle.rules.specs.Period.{effectiveEnd}
 use Rattle.rules.specs.Holding.{withHolding, endOf}
@@ -148,7 +148,7 @@ module _ {d : Head} {w : List (List ℕ)} (r : Ready d w) {to m : ℕ} {places :
   abbrev some : List Entry
   some = stateOf part (slotsAt w places) .entries
 
-  size-of : length (slotsAt w places) ≡ 48
+  size-of : length (slotsAt w places) ≡ mostEvents
   size-of = as-many w places ∙ p .long
 
   slot-of : (j : ℕ) → j < m → getD (slotsAt w places) j [] ≡ getD w (getD places j 0) []

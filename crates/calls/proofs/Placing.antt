@@ -23,20 +23,15 @@ use Rattle.calls.proofs.Places.{behind}
 use Rattle.calls.proofs.Reached.{at-in}
 use Rattle.calls.proofs.Slots.{in-slots, slot-at}
 
--- the id in a slot is its first number
-pub id-at : (x : List ℕ) → entryId (entryOf x) ≡ getD x 0 0
-unfolding entryOf
-id-at x = refl
-
--- a place by the first numbers of the slots
+-- a place by the events in the slots
 pub placed-in : (w : List (List ℕ)) (n i at : ℕ) → n ≤ length w → at ≤ n
-    → ((k : ℕ) → k < at → getD (getD w k []) 0 0 < i) → (at < n → i ≤ getD (getD w at []) 0 0) → Placed (map entryOf (take n w)) i at
+    → ((k : ℕ) → k < at → entryId (entryOf (getD w k [])) < i) → (at < n → i ≤ entryId (entryOf (getD w at []))) → Placed (map entryOf (take n w)) i at
 placed-in w n i at r h b f =
     let long = in-slots w n r in
     record {
       within = omega arith;
-      below = λ k l. rw (slot-at w n r k (omega arith), id-at (getD w k [])) (b k l);
-      from = λ l. rw (slot-at w n r at (omega arith), id-at (getD w at [])) (f (omega arith));
+      below = λ k l. rw (slot-at w n r k (omega arith)) (b k l);
+      from = λ l. rw (slot-at w n r at (omega arith)) (f (omega arith));
     }
 
 -- an entry goes in at the place of its id

@@ -9,9 +9,9 @@ use native.Mathlib.Omega.{arith}
 use borrow.Author.Tests.{eq-eqb, ne-eqb}
 use lib.ListN.{length, take, getD, set, length-set, length-append}
 use lib.Seq.{take-suc-set}
-use Rattle.rules.specs.Records.{has}
+use Rattle.rules.specs.Records.{has, mostRows}
 use Rattle.rules.specs.Rows.{Row}
-use Rattle.rules.specs.Bytes.{big, flat, rowBytes, bytes}
+use Rattle.rules.specs.Bytes.{big, flat, rowBytes, bytes, rowSize}
 use Rattle.rules.proofs.Numbers.{big-length}
 use Rattle.rules.proofs.RowBytes.{bytes-append}
 use Rattle.rules.proofs.Tests.{both}
@@ -45,14 +45,14 @@ module _ {l : List ℕ} {at : ℕ} where
 -- no row
 pub no-row : (l : List ℕ) (at : ℕ) → Written l at l at []
 unfolding flat
-no-row l at = record { size = refl; count = omega arith; front = sym (append-nil (take (17 * at) l)) }
+no-row l at = record { size = refl; count = omega arith; front = sym (append-nil (take (rowSize * at) l)) }
 
 -- a row is its bytes
-pub one-row : (l m : List ℕ) (at : ℕ) (r : Row) → length (rowBytes r) ≡ 17 → Put l (at * 17) (rowBytes r) m → Written l at m (at + 1) (r ∷ [])
+pub one-row : (l m : List ℕ) (at : ℕ) (r : Row) → length (rowBytes r) ≡ rowSize → Put l (at * rowSize) (rowBytes r) m → Written l at m (at + 1) (r ∷ [])
 unfolding flat
 one-row l m at r n p =
-    let e : at * 17 + length (rowBytes r) ≡ 17 * (at + 1) = omega arith in
-    let f : at * 17 ≡ 17 * at = omega arith in
+    let e : at * rowSize + length (rowBytes r) ≡ rowSize * (at + 1) = omega arith in
+    let f : at * rowSize ≡ rowSize * at = omega arith in
     record { size = p .size; count = omega arith; front = rw (append-nil, ← e, ← f) (p .front) }
 
 -- rows and then rows
@@ -60,11 +60,11 @@ pub rows-then : {l m n : List ℕ} {at i j : ℕ} {rs qs : List Row} → Written
 rows-then {l} {m} {n} {at} {i} {j} {rs} {qs} p q = record {
   size = q .size ∙ p .size;
   count = q .count ∙ omega (arith, p .count, length-append rs qs);
-  front = q .front ∙ rw (p .front, bytes-append rs qs) (append-assoc (take (17 * at) l) (bytes rs) (bytes qs));
+  front = q .front ∙ rw (p .front, bytes-append rs qs) (append-assoc (take (rowSize * at) l) (bytes rs) (bytes qs));
 }
 
 -- the three parts of a row
-pub row-put : {l m n : List ℕ} (b t i k : ℕ) → k < 256 → b + 17 ≤ length l → Put l b (big 8 t) m → Put m (b + 8) (big 8 i) n
+pub row-put : {l m n : List ℕ} (b t i k : ℕ) → k < 256 → b + rowSize ≤ length l → Put l b (big 8 t) m → Put m (b + 8) (big 8 i) n
     → Put l b (rowBytes (record { time = t; id = i; code = k })) (set n (b + 16) k)
 unfolding rowBytes big
 row-put {l} {m} {n} b t i k s h p q =
@@ -72,18 +72,18 @@ row-put {l} {m} {n} b t i k s h p q =
     subst (λ v. Put n (b + 16) (big 1 k) (set n (b + 16) v)) (mod-eq-of-lt s) (more 0 k (b + 16) (omega arith) (omega (arith, p .size, q .size)) none) in
     then p (omega (arith, big-length 8 t)) (then q (omega (arith, big-length 8 i)) last)
 
-pub row-size : (t i k : ℕ) → length (rowBytes (record { time = t; id = i; code = k })) ≡ 17
+pub row-size : (t i k : ℕ) → length (rowBytes (record { time = t; id = i; code = k })) ≡ rowSize
 unfolding rowBytes
 row-size t i k = simp (length-append, big-length)
 
 -- a row for a code that is given, and none for another
-pub row-given : {l n : List ℕ} (at t i c k : ℕ) → c ≡ k → Put l (at * 17) (rowBytes (record { time = t; id = i; code = k })) n → Written l at n (at + 1) (rowIf t k i c)
+pub row-given : {l n : List ℕ} (at t i c k : ℕ) → c ≡ k → Put l (at * rowSize) (rowBytes (record { time = t; id = i; code = k })) n → Written l at n (at + 1) (rowIf t k i c)
 row-given {l} {n} at t i c k e p = rw (eq-eqb c k e) (one-row l n at (record { time = t; id = i; code = k }) (row-size t i k) p)
 
 pub row-not : (l : List ℕ) (at t i c k : ℕ) → (c ≡ k → ⊥) → Written l at l at (rowIf t k i c)
 row-not l at t i c k e = rw (ne-eqb c k e) (no-row l at)
 
-pub row-fits : (at t i c k : ℕ) → c ≡ k → at + length (rowIf t k i c) ≤ 96 → at < 96
+pub row-fits : (at t i c k : ℕ) → c ≡ k → at + length (rowIf t k i c) ≤ mostRows → at < mostRows
 row-fits at t i c k e h = omega (arith, rw (eq-eqb c k e) at h)
 
 -- Rows event by event.
@@ -98,8 +98,8 @@ module _ (t k : ℕ) (ids codes : List ℕ) where
   coded-grows i (suc d) = let e : suc d + i ≡ suc (d + i) = omega arith in rw e (omega (arith, coded-grows i d, coded-more (d + i)))
 
   -- one more fits where all do
-  pub coded-fits : (from at i n : ℕ) → i < n → at ≡ from + length (codedRows t k i ids codes) → from + length (codedRows t k n ids codes) ≤ 96
-      → at + length (rowIf t k (getD ids i 0) (getD codes i 0)) ≤ 96
+  pub coded-fits : (from at i n : ℕ) → i < n → at ≡ from + length (codedRows t k i ids codes) → from + length (codedRows t k n ids codes) ≤ mostRows
+      → at + length (rowIf t k (getD ids i 0) (getD codes i 0)) ≤ mostRows
   coded-fits from at i n l e f =
       let d : n - suc i + suc i ≡ n = omega arith in
       omega (arith, coded-more i, rw d at (coded-grows (suc i) (n - suc i)))

@@ -15,7 +15,7 @@ use Rattle.rules.specs.declared.Id.{Id}
 use Rattle.rules.specs.declared.Schedule.{Schedule}
 use Rattle.rules.specs.declared.Frame.{Frame}
 use Rattle.rules.specs.declared.Frame.the-variants as frame
-use Rattle.rules.specs.Records.{mostEvents, idOf, has, view}
+use Rattle.rules.specs.Records.{mostEvents, idOf, has, view, idNumber}
 use Rattle.rules.specs.Bytes.{read}
 use Rattle.rules.specs.Sound.{sound}
 use Rattle.rules.specs.Refusals.{find}
@@ -78,8 +78,8 @@ module _ {s : Schedule} {r : Acted} {w : List (List ℕ)} {rows : List ℕ} wher
   pub on-event : (e : Event) → length rows ≡ 1632 → Acts r w [] (call s (deliver e)) → ActsOn s (frame.Event e) r w rows
   on-event e = on (frame.Event e) (λ clock. codeText clock (idOf e)) (λ clock o. refl)
 
-  pub on-cancel : (i : Id) → length rows ≡ 1632 → Acts r w [] (call s (cancel (i .value))) → ActsOn s (frame.Cancel i) r w rows
-  on-cancel i = on (frame.Cancel i) (λ clock. codeText clock (i .value)) (λ clock o. refl)
+  pub on-cancel : (i : Id) → length rows ≡ 1632 → Acts r w [] (call s (cancel (idNumber i))) → ActsOn s (frame.Cancel i) r w rows
+  on-cancel i = on (frame.Cancel i) (λ clock. codeText clock (idNumber i)) (λ clock o. refl)
 
   pub on-program : (n p d : ℕ) → length rows ≡ 1632 → Acts r w [] (call s (addProgram n p d)) → ActsOn s (frame.Program n p d) r w rows
   on-program n p d = on (frame.Program n p d) (λ clock v. []) (λ clock o. refl)

@@ -7,6 +7,7 @@ use Rattle.rules.specs.declared.Schedule.{Schedule}
 use Rattle.rules.specs.declared.Frame.{Frame}
 use Rattle.rules.specs.declared.Line.{Line}
 use Rattle.rules.specs.Records.{mostEvents}
+use Rattle.rules.specs.Bytes.{rowsSize}
 use Rattle.rules.specs.Calls.{Outcome, numberOf, valueOf, call}
 use Rattle.rules.specs.Frames.{frameCall}
 use Rattle.rules.specs.Printed.{room, frameText, tellLine}
@@ -19,7 +20,7 @@ use Rattle.calls.specs.Slots.{scheduleOf}
 pub record ActsOn (s : Schedule) (f : Frame) (r : Acted) (w : List (List ℕ)) (rows : List ℕ) : Type 0 where
   pub size : length w ≡ mostEvents
   pub count : r .head .count ≤ mostEvents
-  pub long : length rows ≡ 1632
+  pub long : length rows ≡ rowsSize
   pub number : numberOf (r .answer) ≡ call s (frameCall f room) .number
   pub value : valueOf (r .answer) ≡ call s (frameCall f room) .value
   pub state : scheduleOf (r .head) w ≡ call s (frameCall f room) .state
@@ -29,6 +30,6 @@ pub record ActsOn (s : Schedule) (f : Frame) (r : Acted) (w : List (List ℕ)) (
 pub record Says (s : Schedule) (line : Line) (old : List ℕ) (at : ℕ) (r : Telling) (w : List (List ℕ)) (rows new : List ℕ) : Type 0 where
   pub size : length w ≡ mostEvents
   pub count : r .head .count ≤ mostEvents
-  pub long : length rows ≡ 1632
+  pub long : length rows ≡ rowsSize
   pub state : scheduleOf (r .head) w ≡ tellLine s line .state
   pub text : Stands old at (tellLine s line .text) new (r .behind)

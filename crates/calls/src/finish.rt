@@ -5,9 +5,10 @@ ghost use lib.ListN.{length};
 ghost use Rattle.rules.specs.Records.{mostEvents};
 ghost use Rattle.calls.specs.Finished.{Finished};
 use crate::held;
+use crate::held::Slots;
 
 // The events that end after the reading come to the front; how many they are. Most stay where they are.
-pub(crate) fn finish(slots: &mut [[u64; 13]; 48], n: usize, to: u64) -> usize
+pub(crate) fn finish(slots: &mut Slots, n: usize, to: u64) -> usize
     requires { ⌜ (n ≤ mostEvents) × (length (now slots) ≡ mostEvents) ⌝ }
     ensures { λ r. ⌜ Finished to n (now (slots .entry)) (now (slots .exit)) r ⌝ }
 {

@@ -4,7 +4,7 @@ ghost use mathlib.Core.Path.{_≡_};
 ghost use mathlib.Core.List.{[]};
 ghost use Prim.Native.Nat.{_≤_};
 ghost use lib.ListN.{length};
-ghost use Rattle.rules.specs.Records.{mostEvents};
+ghost use Rattle.rules.specs.Records.{mostEvents, idNumber};
 ghost use Rattle.rules.specs.Calls.{call, addProgram, deliver, cancel, setClock, ask};
 ghost use Rattle.calls.specs.Slots.{scheduleOf};
 ghost use Rattle.calls.specs.Answered.{outcomeOf};
@@ -49,7 +49,7 @@ pub struct Ran {
 }
 
 // A schedule by value from what a call on slots left.
-fn by_value(a: Acted, slots: &[[u64; 13]; 48]) -> Answered
+fn by_value(a: Acted, slots: &held::Slots) -> Answered
     requires { ⌜ (length (now slots) ≡ mostEvents) × (a .head .count ≤ mostEvents) ⌝ }
     ensures { λ r. ⌜ (r .answer ≡ a .answer) × (r .schedule ≡ scheduleOf (a .head) (now (slots .entry))) ⌝ }
 {
@@ -71,7 +71,7 @@ pub fn add_program(s: Schedule, number: u8, primacy: u8, defaults: u32) -> Answe
             schedule: s,
         };
     }
-    let mut slots = [[0u64; 13]; 48];
+    let mut slots = held::NO_SLOTS;
     held::take_apart(s, &mut slots);
     let done = programs::add_program(held::head_of(s), number, primacy, defaults);
     by_value(done, &slots)
@@ -87,7 +87,7 @@ pub fn deliver(s: Schedule, e: Event) -> Answered
             schedule: s,
         };
     }
-    let mut slots = [[0u64; 13]; 48];
+    let mut slots = held::NO_SLOTS;
     held::take_apart(s, &mut slots);
     let done = events::deliver(held::head_of(s), &mut slots, e);
     by_value(done, &slots)
@@ -95,7 +95,7 @@ pub fn deliver(s: Schedule, e: Event) -> Answered
 
 // Calls, cancel: code 6, or 0 if the event was cancelled before.
 pub fn cancel(s: Schedule, id: Id) -> Answered
-    ensures { λ r. ⌜ outcomeOf r [] [] ≡ call s (cancel (id .value)) ⌝ }
+    ensures { λ r. ⌜ outcomeOf r [] [] ≡ call s (cancel (idNumber id)) ⌝ }
 {
     if !sound::is_sound(s) {
         return Answered {
@@ -103,7 +103,7 @@ pub fn cancel(s: Schedule, id: Id) -> Answered
             schedule: s,
         };
     }
-    let mut slots = [[0u64; 13]; 48];
+    let mut slots = held::NO_SLOTS;
     held::take_apart(s, &mut slots);
     let done = events::cancel(held::head_of(s), &mut slots, id);
     by_value(done, &slots)
@@ -132,7 +132,7 @@ pub fn ask(s: Schedule, control: u8) -> Answered
             schedule: s,
         };
     }
-    let mut slots = [[0u64; 13]; 48];
+    let mut slots = held::NO_SLOTS;
     held::take_apart(s, &mut slots);
     let answer = programs::ask(held::head_of(s), &slots, control);
     Answered {

@@ -4,6 +4,7 @@ ghost use mathlib.Core.Logic.{_⊎_};
 ghost use Prim.Native.Nat.{_+_, _-_, _<_, _≤_};
 ghost use mathlib.Core.Bool.{true};
 ghost use lib.ListN.{length, getD, take, drop};
+ghost use Rattle.rules.specs.Bytes.{rowsSize};
 ghost use Rattle.rules.specs.Sound.{sound};
 ghost use Rattle.rules.specs.Frames.{lineOf};
 ghost use Rattle.text.specs.Texts.{mostText};
@@ -15,6 +16,10 @@ use crate::Ran;
 use crate::events;
 use crate::held;
 use crate::held::Head;
+use crate::held::NO_ROWS;
+use crate::held::NO_SLOTS;
+use crate::held::Rows;
+use crate::held::Slots;
 use crate::programs;
 use crate::reading;
 use rules::Answer;
@@ -23,9 +28,9 @@ use rules::Line;
 use rules::Schedule;
 
 // Frames and image. The call of a frame; a clock reading writes its rows over the front of the buffer.
-fn act_on(d: Head, slots: &mut [[u64; 13]; 48], f: Frame, rows: &mut [u8; 1632]) -> Acted
+fn act_on(d: Head, slots: &mut Slots, f: Frame, rows: &mut Rows) -> Acted
     requires { ⌜ Ready d (now slots) ⌝ }
-    requires { ⌜ length (now rows) ≡ 1632 ⌝ }
+    requires { ⌜ length (now rows) ≡ rowsSize ⌝ }
     ensures { λ r. ⌜ ActsOn (scheduleOf d (now (slots .entry))) f r (now (slots .exit)) (now (rows .exit)) ⌝ }
 {
     match f {
@@ -103,14 +108,14 @@ struct Telling {
 // Frames and image, the program. Acts on what a line stands for and writes the line's text from `at` on.
 fn tell(
     d: Head,
-    slots: &mut [[u64; 13]; 48],
+    slots: &mut Slots,
     line: Line,
-    rows: &mut [u8; 1632],
+    rows: &mut Rows,
     out: &mut [u8],
     at: usize,
 ) -> Telling
     requires { ⌜ Ready d (now slots) ⌝ }
-    requires { ⌜ (length (now rows) ≡ 1632) × (at + mostText ≤ length (now out)) ⌝ }
+    requires { ⌜ (length (now rows) ≡ rowsSize) × (at + mostText ≤ length (now out)) ⌝ }
     ensures { λ r. ⌜ Says (scheduleOf d (now (slots .entry))) line (now (out .entry)) at r (now (slots .exit)) (now (rows .exit)) (now (out .exit)) ⌝ }
 {
     let Line::Good(f) = line else {
@@ -130,10 +135,10 @@ pub(crate) fn run(s: Schedule, lines: &[u8], out: &mut [u8]) -> Ran
     requires { ⌜ sound s ≡ true ⌝ }
     ensures { λ r. ⌜ ranOf r (now (out .exit)) ≡ ranInto (runs (length (now (out .entry))) s (endedOf (now (lines .entry)))) (now (out .entry)) ⌝ }
 {
-    let mut slots = [[0u64; 13]; 48];
+    let mut slots = NO_SLOTS;
     held::take_apart(s, &mut slots);
     let mut d = held::head_of(s);
-    let mut rows = [0u8; 1632];
+    let mut rows = NO_ROWS;
     let mut from = 0;
     let mut at = 0;
     while from < lines.len() {

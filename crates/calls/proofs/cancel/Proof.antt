@@ -1,6 +1,7 @@
 -- 2, or what the call does on the slots of a sound schedule.
 use mathlib.Core.Path.{_≡_, refl, sym, _∙_}
 use mathlib.Core.Bool.{true}
+use Rattle.rules.specs.Records.{idNumber}
 use borrow.Author.Needs.{needs}
 use borrow.Author.Tests.{not-true, not-false}
 use Rattle.rules.specs.Sound.{sound}
@@ -13,7 +14,7 @@ use Rattle.calls.proofs.cancel.Tie as tie
 returns : tie.Need-returns
 returns c =
     let a = c .before .before .args in
-    broken (a .s) (sym (c .before .is-sound .ensures) ∙ not-true (c .before .is-sound .result) (c .if1 .taken)) (cancel (a .id .value))
+    broken (a .s) (sym (c .before .is-sound .ensures) ∙ not-true (c .before .is-sound .result) (c .if1 .taken)) (cancel (idNumber (a .id)))
 
 good : (c : tie.Else1) → sound (c .before .before .args .s) ≡ true
 good c = sym (c .before .is-sound .ensures) ∙ not-false (c .before .is-sound .result) (c .if1 .left)
@@ -29,7 +30,7 @@ returns-2 c =
     let head = c .before .before .before .before .head-of in
     let apart = c .before .before .before .before .before .take-apart in
     let call = c .before .before .cancel in
-    returned (a .s) (head .result) _ (head .ensures) (apart .ensures) (cancel (a .id .value)) _ (call .result) _ (call .ensures) (c .by-value .result) (c .by-value .ensures)
+    returned (a .s) (head .result) _ (head .ensures) (apart .ensures) (cancel (idNumber (a .id))) _ (call .result) _ (call .ensures) (c .by-value .result) (c .by-value .ensures)
 
 pub cancel-spec : {M : Type 1} → statement M
 cancel-spec =

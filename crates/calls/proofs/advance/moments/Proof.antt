@@ -3,6 +3,7 @@ use mathlib.Core.Path.{_≡_, refl, _∙_}
 use Prim.Native.Nat.{ℕ, _-_}
 use native.Mathlib.Omega.{arith}
 use lib.ListN.{length}
+use Rattle.rules.specs.Records.{mostEvents}
 use Rattle.calls.specs.Slots.{scheduleOf}
 use Rattle.calls.specs.Columns.{nextOf}
 use Rattle.calls.specs.Held.{columnsOf}
@@ -16,9 +17,9 @@ Inv-loop slots places to rows₀ held₀ n from programs begins ends carried kep
     (clock : ℕ)
     × Going (scheduleOf (record { clock = from; count = n; programs = programs }) (slotsAt slots places)) to n (columnsOf programs (slotsAt slots places) begins ends carried) rows₀ rows held clock at
     × (t ≡ nextOf clock limit n begins ends)
-    × (length held ≡ 48)
-    × (length kept ≡ 48)
-    × (length codes ≡ 48)
+    × (length held ≡ mostEvents)
+    × (length kept ≡ mostEvents)
+    × (length codes ≡ mostEvents)
 
 abbrev μ-loop : tie.MeasureT-loop
 μ-loop slots places to rows₀ held₀ n from programs begins ends carried kept₀ codes₀ limit t₀ at₀ rows held kept codes t at = limit - t

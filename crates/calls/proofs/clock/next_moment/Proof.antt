@@ -1,6 +1,7 @@
 -- The loop has looked at the first i.
 use mathlib.Core.Path.{_≡_, refl, ap, _∙_}
 use Prim.Native.Nat.{_-_, _≤_, min}
+use Rattle.rules.specs.Records.{mostEvents}
 use native.Mathlib.Omega.{arith}
 use borrow.Author.Needs.{needs}
 use Rattle.calls.specs.Columns.{nextOf}
@@ -9,7 +10,7 @@ use Rattle.calls.proofs.clock.next_moment.Statement.{statement}
 use Rattle.calls.proofs.clock.next_moment.Tie as tie
 
 abbrev Inv-loop : tie.InvT-loop
-Inv-loop clock limit begins ends n next₀ i₀ next i = (i ≤ n) × (n ≤ 48) × (next ≡ nextOf clock limit i begins ends) × (next ≤ limit)
+Inv-loop clock limit begins ends n next₀ i₀ next i = (i ≤ n) × (n ≤ mostEvents) × (next ≡ nextOf clock limit i begins ends) × (next ≤ limit)
 
 abbrev μ-loop : tie.MeasureT-loop
 μ-loop clock limit begins ends n next₀ i₀ next i = n - i

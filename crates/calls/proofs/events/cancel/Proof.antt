@@ -7,7 +7,7 @@ use native.Mathlib.Omega.{arith}
 use borrow.Author.Needs.{needs}
 use borrow.Author.Tests.{not-true, not-false}
 use lib.ListN.{set, length-set}
-use Rattle.rules.specs.Records.{mostEvents}
+use Rattle.rules.specs.Records.{mostEvents, idNumber}
 use Rattle.rules.specs.Refusals.{cancelChecks}
 use Rattle.rules.specs.Calls.{cancel, code, does, checks, call}
 use Rattle.calls.specs.Slots.{scheduleOf}
@@ -22,7 +22,7 @@ unfolding checks cancelChecks
 returns c =
     let start = c .before .before .before .before in
     let place = c .before .before .place-of in
-    refuses (start .pre) (cancel (start .args .id .value)) 11 refl refl (rw (found (start .pre) (place .ensures), not-true (place .result .held) (c .if1 .taken)))
+    refuses (start .pre) (cancel (idNumber (start .args .id))) 11 refl refl (rw (found (start .pre) (place .ensures), not-true (place .result .held) (c .if1 .taken)))
 
 held : (c : tie.Else1) → c .before .before .place-of .result .held ≡ true
 held c = not-false (c .before .before .place-of .result .held) (c .if1 .left)
@@ -39,7 +39,7 @@ marked : (c : tie.After-slot-of) → let a = c .before .before .before .before .
       bytes = [];
       records = [];
     }
-    ≡ call (scheduleOf (a .d) (a .slots .now)) (cancel (a .id .value))
+    ≡ call (scheduleOf (a .d) (a .slots .now)) (cancel (idNumber (a .id)))
 unfolding does checks cancelChecks
 marked c =
     let start = c .before .before .before .before .before .before .before .before in
@@ -52,7 +52,7 @@ marked c =
     let old = found r (place .ensures) in
     let same = slot-at w n (within r) (place .result .at) l ∙ sym (c .before .before .entry-of .ensures) in
     let over = put-over w n (within r) (place .result .at) (c .slot-of .result) l (sound-of r .ids) (c .slot-of .ensures ∙ ap stopped (sym same)) in
-    rw (over, place .ensures .held (held else) .1, ← same) (rw (old, held else) at (sym (does-it r (cancel (start .args .id .value)) (rw (old, held else)))))
+    rw (over, place .ensures .held (held else) .1, ← same) (rw (old, held else) at (sym (does-it r (cancel (idNumber (start .args .id))) (rw (old, held else)))))
 
 returns-2 : tie.Need-returns-2
 returns-2 c =

@@ -6,6 +6,7 @@ use native.Mathlib.Omega.{arith}
 use borrow.Author.Needs.{needs}
 use lib.ListN.{length}
 use Rattle.rules.specs.Records.{mostEvents}
+use Rattle.rules.specs.Bytes.{rowsSize}
 use Rattle.rules.specs.Calls.{count}
 use Rattle.calls.specs.Slots.{scheduleOf}
 use Rattle.calls.specs.Lines.{endedOf, runs, ranInto}
@@ -17,7 +18,7 @@ use Rattle.calls.proofs.lines.run.Tie as tie
 
 abbrev Inv-loop : tie.InvT-loop
 Inv-loop lines out₀ slots₀ d₀ rows₀ from₀ at₀ out slots d rows from at =
-    Running (scheduleOf d₀ slots₀) lines out₀ (scheduleOf d slots) from at out × (length slots ≡ mostEvents) × (d .count ≤ mostEvents) × (length rows ≡ 1632)
+    Running (scheduleOf d₀ slots₀) lines out₀ (scheduleOf d slots) from at out × (length slots ≡ mostEvents) × (d .count ≤ mostEvents) × (length rows ≡ rowsSize)
 
 abbrev μ-loop : tie.MeasureT-loop
 μ-loop lines out₀ slots₀ d₀ rows₀ from₀ at₀ out slots d rows from at = length lines - from

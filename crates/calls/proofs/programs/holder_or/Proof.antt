@@ -1,13 +1,13 @@
 -- The loop has passed over the first i.
-use mathlib.Core.Path.{_≡_, refl, sym, _∙_}
+use mathlib.Core.Path.{_≡_, refl, sym, ap, _∙_}
 use Prim.Native.Nat.{_-_, _≤_, _<_}
 use mathlib.Core.List.{map}
 use native.Mathlib.Omega.{arith}
 use borrow.Author.Needs.{needs}
 use lib.ListN.{length, take, drop}
-use Rattle.rules.specs.Records.{mostEvents}
-use Rattle.rules.specs.Calls.{valueOf, holderIn}
-use Rattle.calls.specs.Slots.{entryOf}
+use Rattle.rules.specs.Records.{mostEvents, idNumber}
+use Rattle.rules.specs.Calls.{valueOf, holder, holderIn}
+use Rattle.calls.specs.Slots.{entryOf, mostControls}
 use Rattle.calls.proofs.Asking.{held-here, not-here, none-holds}
 use Rattle.calls.proofs.programs.holder_or.Statement.{statement}
 use Rattle.calls.proofs.programs.holder_or.Tie as tie
@@ -15,7 +15,7 @@ use Rattle.calls.proofs.programs.holder_or.Tie as tie
 abbrev Inv-loop : tie.InvT-loop
 Inv-loop slots n control other i₀ i =
     let hs = map entryOf (take n slots) in
-    (i ≤ n) × (n ≤ mostEvents) × (length slots ≡ mostEvents) × (control < 32) × (holderIn control hs (valueOf other) ≡ holderIn control (drop i hs) (valueOf other))
+    (i ≤ n) × (n ≤ mostEvents) × (length slots ≡ mostEvents) × (control < mostControls) × (holderIn control hs (valueOf other) ≡ holderIn control (drop i hs) (valueOf other))
 
 abbrev μ-loop : tie.MeasureT-loop
 μ-loop slots n control other i₀ i = n - i
@@ -25,10 +25,13 @@ loop-holds c = (omega arith, c .pre .1 .0 .0, c .pre .1 .0 .1, c .pre .0, refl)
 
 returns : tie.Need-returns Inv-loop μ-loop
 returns c =
-    let l = c .before .before .before .before .loop in
-    let a = c .before .before .before .before .before .args in (
+    let holds = c .before .before in
+    let at = holds .before .before in
+    let l = at .loop in
+    let a = at .before .args in (
       refl,
-      held-here (a .control) (a .n) (a .slots .now) (valueOf (a .other)) (omega arith) (l .i) (omega arith) (sym (c .before .before .is-holder .ensures) ∙ c .before .if1 .taken) ∙ sym (l .inv .4),
+      ap (λ x. holder (idNumber x)) (c .id-at .ensures)
+          ∙ held-here (a .control) (a .n) (a .slots .now) (valueOf (a .other)) (omega arith) (l .i) (omega arith) (sym (holds .is-holder .ensures) ∙ c .before .if1 .taken) ∙ sym (l .inv .4),
     )
 
 loop-again : tie.Need-loop-again Inv-loop μ-loop
@@ -51,4 +54,4 @@ returns-2 c =
 pub holder-or-spec : {M : Type 1} → statement M
 holder-or-spec =
     tie.close
-    (tie.spec Inv-loop μ-loop loop-holds (λ c κs. search needs) (λ c. search needs) (λ c. search needs) (λ c. search needs) returns (λ c. search needs) (λ c. search needs) loop-again returns-2)
+    (tie.spec Inv-loop μ-loop loop-holds (λ c κs. search needs) (λ c κs. search needs) returns (λ c. search needs) (λ c. search needs) loop-again returns-2)

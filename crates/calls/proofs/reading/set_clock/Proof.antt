@@ -7,7 +7,8 @@ use lib.Dec.{ltb}
 use native.Mathlib.Omega.{arith}
 use borrow.Author.Needs.{needs}
 use lib.ListN.{length}
-use Rattle.rules.specs.Records.{lastClock}
+use Rattle.rules.specs.Records.{lastClock, mostRows}
+use Rattle.rules.specs.Bytes.{rowSize}
 use Rattle.rules.specs.Calls.{count}
 use Rattle.octets.proofs.Fits.{copy-inside, copy-size}
 use Rattle.calls.specs.Slots.{scheduleOf}
@@ -41,7 +42,7 @@ moved c =
 in-time : (c : tie.After-advance) → (ltb (c .before .before .before .before .before .before .before .before .before .args .reading) (c .before .before .before .before .before .before .before .before .before .args .s .clock) || ltb lastClock (c .before .before .before .before .before .before .before .before .before .args .reading)) ≡ false
 in-time c = sym (c .before .before .before .before .before .before .before .is-out-of-range .ensures) ∙ c .before .before .before .before .before .before .if1 .left
 
-at-most : (c : tie.After-advance) → c .advance .result .rows ≤ 96
+at-most : (c : tie.After-advance) → c .advance .result .rows ≤ mostRows
 at-most c = let start = c .before .before .before .before .before .before .before .before .before in few (start .args .s) (start .pre) (start .args .reading) (in-time c) _ _ _ (moved c)
 
 returns-2 : tie.Need-returns-2
@@ -55,8 +56,8 @@ returns-3 c =
     let a = start .args in
     let went = c .before .before .before .before .before .before .before .before .before in
     let n = went .advance .result .rows in
-    let room : 17 * n ≤ length (a .buffer .now) = omega (arith, c .before .before .before .before .before .before .before .before .if2 .left) in
-    (λ i. record { number = 0; value = count n; state = c .put-together .ensures i; bytes = (c .before .before .before .before .before .copy .ensures ∙ copy-inside (17 * n) _ (a .buffer .now) (omega (arith, at-most went, went .advance .ensures .advanced .size)) room) i; records = [] })
+    let room : rowSize * n ≤ length (a .buffer .now) = omega (arith, c .before .before .before .before .before .before .before .before .if2 .left) in
+    (λ i. record { number = 0; value = count n; state = c .put-together .ensures i; bytes = (c .before .before .before .before .before .copy .ensures ∙ copy-inside (rowSize * n) _ (a .buffer .now) (omega (arith, at-most went, went .advance .ensures .advanced .size)) room) i; records = [] })
     ∙ fits (a .s) (start .pre) (a .reading) (in-time went) _ _ n (moved went) (a .buffer .now) room
 
 pub set-clock-spec : {M : Type 1} → statement M

@@ -9,6 +9,7 @@ use lib.ListN.{getD}
 use native.Mathlib.Omega.{arith}
 use mathlib.Core.Path.{_≡_}
 use mathlib.Core.Logic.{⊎-elim}
+use Rattle.rules.specs.Records.{mostPrograms}
 use Rattle.calls.specs.Slots.{entryOf}
 use Rattle.calls.specs.Columns.{primaciesOf, createdOf, idsOf}
 use Rattle.calls.specs.Settled.{rankAt}
@@ -54,7 +55,7 @@ is-ahead-requires c κs =
     let w = s .args .slots .now in
     let i : l .i < s .args .n = c .before .before .before .before .before .before .loop-test .taken in
     let b : l .best < s .args .n = omega (arith, l .inv .bound, c .before .before .if2 .left) in
-    let numbered : (k : ℕ) → k < s .args .n → entryOf (getD w (getD (s .args .places .now) k 0) []) .event .program < 8 =
+    let numbered : (k : ℕ) → k < s .args .n → entryOf (getD w (getD (s .args .places .now) k 0) []) .event .program < mostPrograms =
     λ k h. rw (slot-there w (s .args .places .now) k (omega (arith, p .long, s .pre .0))) at (s .pre .1 .1 .1 .1 k h) in
     (p .within (l .i) i, p .within (l .best) b, s .pre .1 .1 .0 .0, numbered (l .i) i, numbered (l .best) b)
 
