@@ -59,7 +59,7 @@ pub record Wrote (old : List ℕ) (at : ℕ) (vs new : List ℕ) : Type 0 where
 pub wrote-none : (l : List ℕ) (at : ℕ) → at ≤ length l → Wrote l at [] l
 wrote-none l at h = record { room = omega arith; is = sym (over-none at l) }
 
-same-size : {old : List ℕ} {at : ℕ} {vs new : List ℕ} → Wrote old at vs new → length new ≡ length old
+pub same-size : {old : List ℕ} {at : ℕ} {vs new : List ℕ} → Wrote old at vs new → length new ≡ length old
 same-size {old} {at} {vs} w = ap length (w .is) ∙ over-size at vs old (w .room)
 
 -- and one list more, or the bytes of one number or one event more
