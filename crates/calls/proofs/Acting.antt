@@ -29,8 +29,7 @@ module _ {d : Head} {w : List (List ℕ)} (r : Ready d w) where
   pub refuses : (c : Call) (n : ℕ) → eqb n 0 ≡ false → lentList c ≡ [] → n ≡ firstOf (checks (stateOf d w) c)
       → Acts (record { answer = Refused n; head = d }) w (lentBytes c) (call (scheduleOf d w) c)
   refuses c n f l q = record {
-    size = r .size;
-    count = r .count;
+    used = r .used;
     outcome = ap (λ z. record { number = n; value = nothing; state = scheduleOf d w; bytes = lentBytes c; records = z }) (sym l)
         ∙ given (scheduleOf d w) (r .good) c n f (q ∙ ap (λ s. firstOf (checks s c)) (sym (view-of r)));
   }
@@ -51,4 +50,4 @@ module _ {d : Head} {w : List (List ℕ)} (r : Ready d w) where
   found {i} {p} f = find-at i (stateOf d w .entries) (p .at) (p .held) (sound-of r .ids) f
 
   pub inside : {i : ℕ} {p : Place} → Found (stateOf d w .entries) i p → p .held ≡ true → (p .at < d .count) × (d .count ≤ mostEvents)
-  inside f h = (omega (arith, f .held h .0, count-of r), r .count)
+  inside f h = (omega (arith, f .held h .0, count-of r), r .used .few)

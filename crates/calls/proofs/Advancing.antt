@@ -226,7 +226,7 @@ module _ {d : Head} {w : List (List ℕ)} (r : Ready d w) where
     }
 
     long-of : Long columns
-    long-of = record { primacies = primacies-long w (d .programs) ∙ r .size; created = created-long w ∙ r .size; ids = ids-long w ∙ r .size }
+    long-of = record { primacies = primacies-long w (d .programs) ∙ r .used .size; created = created-long w ∙ r .used .size; ids = ids-long w ∙ r .used .size }
 
     pub begin : (to : ℕ) (old : List ℕ) → d .clock ≤ to → to ≤ lastClock → length old ≡ rowsSize → Going whole-of to (d .count) columns old old held (d .clock) 0
     begin to old h l size =

@@ -63,5 +63,5 @@ module _ (to d : ℕ) (old new : List (List ℕ)) (k : ℕ) (w : Moved to d old 
   pub stayed : k ≡ d → to < endOf (entryOf (getD new d [])) → Moved to (d + 1) old new (k + 1)
   stayed e h = subst (λ z. Moved to (d + 1) old z (k + 1)) (ap (λ j. set new k (getD new j [])) (sym e) ∙ set-getD new k []) (kept h)
 
-pub all-moved : {to n : ℕ} {old new : List (List ℕ)} {k : ℕ} → Moved to n old new k → Finished to n old new k
-all-moved w = record { size = w .size; count = w .fewer; lasting = w .front }
+pub all-moved : {to n : ℕ} {old new : List (List ℕ)} {k : ℕ} → n ≤ mostEvents → Moved to n old new k → Finished to n old new k
+all-moved l w = record { used = record { few = omega (arith, w .fewer); size = w .size }; lasting = w .front }

@@ -111,7 +111,7 @@ module _ {d : Head} {w : List (List ℕ)} (r : Ready d w) {to m : ℕ} {places :
   lively = keep tag (placesTo n)
 
   fits : m ≤ length places
-  fits = omega (arith, p .few, p .long, r .count)
+  fits = omega (arith, p .few, p .long, r .used .few)
 
   found : take m places ≡ lively
   unfolding livePlaces
@@ -139,7 +139,7 @@ module _ {d : Head} {w : List (List ℕ)} (r : Ready d w) {to m : ℕ} {places :
   pub placed : Placed m places
   placed = record {
     long = p .long;
-    within = λ k l. omega (arith, at-place k l .0, r .count);
+    within = λ k l. omega (arith, at-place k l .0, r .used .few);
     ascend = λ k l j b. ascending m places fits (subst (Pairwise _<_) (sym found) (asc-keep _<_ tag (placesTo n) (places-ascend n))) j k b l;
   }
 
@@ -179,8 +179,7 @@ module _ {d : Head} {w : List (List ℕ)} (r : Ready d w) {to m : ℕ} {places :
 
   pub ready : Ready part (slotsAt w places)
   ready = record {
-    size = size-of;
-    count = omega (arith, p .few, r .count);
+    used = record { few = omega (arith, p .few, r .used .few); size = size-of };
     good = sound-pad (stateOf part (slotsAt w places)) (subst (λ hs. Sound (record { clock = d .clock; programs = d .programs; entries = hs })) (sym some-live) (record {
       clock = sound-of r .clock;
       eight = sound-of r .eight;
@@ -282,7 +281,7 @@ module _ {d : Head} {w : List (List ℕ)} (r : Ready d w) {to m : ℕ} {places :
 
       all-settled : keep (lasts to) (map entryOf (take n new)) ≡ keep (lasts to) vs
       all-settled =
-          let c : n ≤ length new = omega (arith, g .size, r .count) in
+          let c : n ≤ length new = omega (arith, g .size, r .used .few) in
           at-kept (lasts to) noEntry (map entryOf (take n new)) vs (in-slots new n c ∙ sym (ran .size)) (λ i b.
           let z : i < n = omega (arith, in-slots new n c) in
           rw (slot-at new n c i z) (at-any i z))

@@ -18,7 +18,7 @@ use Rattle.rules.proofs.ListLaws.{map-same}
 use Rattle.rules.proofs.Kept.{find-none}
 use Rattle.rules.proofs.SoundState.{ById}
 use Rattle.calls.specs.Slots.{entryOf}
-use Rattle.calls.specs.Found.{Placed}
+use Rattle.calls.specs.Found.{Placed, widened}
 use Rattle.calls.proofs.Places.{behind}
 use Rattle.calls.proofs.Reached.{at-in}
 use Rattle.calls.proofs.Slots.{in-slots, slot-at}
@@ -83,10 +83,6 @@ module _ {A B : Type 0} (f : A → B) where
   map-set [] i a = refl
   map-set (x ∷ xs) zero a = refl
   map-set (x ∷ xs) (suc i) a = ap (_∷_ (f x)) (map-set xs i a)
-
--- the slots with one put in, as `put_in` leaves them
-abbrev pub widened : List (List ℕ) → ℕ → ℕ → List ℕ → List (List ℕ)
-widened w n at x = take at w ++ (x ∷ drop at (take n w)) ++ drop (n + 1) w
 
 module _ (w : List (List ℕ)) (n : ℕ) where
   abbrev hs : List Entry

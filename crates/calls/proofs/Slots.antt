@@ -21,7 +21,7 @@ module _ (w : List (List ℕ)) (n : ℕ) (fits : n ≤ length w) where
 
 module _ {d : Head} {w : List (List ℕ)} (r : Ready d w) where
   pub within : d .count ≤ length w
-  within = omega (arith, r .count, r .size)
+  within = omega (arith, r .used .few, r .used .size)
 
   -- as many events as there are slots in use
   pub count-of : scheduleOf d w .count ≡ d .count
