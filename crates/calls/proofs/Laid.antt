@@ -13,7 +13,7 @@ use Rattle.rules.specs.Records.{mostEvents, noEntry, view, pad}
 use Rattle.rules.specs.Sound.{sound}
 use Rattle.rules.proofs.SoundState.{pad-view}
 use Rattle.calls.specs.declared.held.Head.{Head}
-use Rattle.calls.specs.Slots.{entryOf, scheduleOf, InUse, Apart}
+use Rattle.calls.specs.Slots.{entryOf, scheduleOf, InUse, TakenApart}
 use Rattle.calls.proofs.Slots.{in-slots}
 
 -- the first i slots as entries, and nothing in the places behind them
@@ -42,5 +42,5 @@ pub slot-more : (hs : List Entry) (w : List (List ℕ)) (i : ℕ) (x : List ℕ)
 slot-more hs w i x l h e q = rw (add-one, take-suc-set w i x l, map-append, take-suc hs i noEntry h, q, e)
 
 -- slots that have the events of a sound schedule are that schedule
-pub apart-of : (s : Schedule) → sound s ≡ true → (w : List (List ℕ)) → length w ≡ mostEvents → map entryOf (take (s .count) w) ≡ view s .entries → Apart s w
+pub apart-of : (s : Schedule) → sound s ≡ true → (w : List (List ℕ)) → length w ≡ mostEvents → map entryOf (take (s .count) w) ≡ view s .entries → TakenApart s w
 apart-of s e w l q = record { size = l; same = ap (λ hs. pad (record { clock = s .clock; programs = s .programs; entries = hs })) q ∙ pad-view s e }

@@ -11,12 +11,12 @@ use Rattle.rules.proofs.SoundState.{rules}
 use Rattle.calls.specs.declared.Answered.{Answered}
 use Rattle.calls.specs.declared.Acted.{Acted}
 use Rattle.calls.specs.declared.held.Head.{Head}
-use Rattle.calls.specs.Slots.{headOf, scheduleOf, Apart, Ready}
+use Rattle.calls.specs.Slots.{headOf, scheduleOf, TakenApart, Ready}
 use Rattle.calls.specs.Answered.{outcomeOf, told, ByValue, Acts}
 use Rattle.calls.specs.declared.advance.Passed.{Passed}
 use Rattle.calls.specs.Advanced.{Advanced, Advances}
 
-module _ {s : Schedule} {d : Head} {w : List (List ℕ)} (q : d ≡ headOf s) (a : Apart s w) where
+module _ {s : Schedule} {d : Head} {w : List (List ℕ)} (q : d ≡ headOf s) (a : TakenApart s w) where
   -- head and slots are the schedule
   pub same-schedule : scheduleOf d w ≡ s
   same-schedule = ap (λ h. scheduleOf h w) q ∙ a .same

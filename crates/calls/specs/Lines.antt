@@ -21,18 +21,18 @@ use Rattle.calls.specs.declared.Ran as declared
 use Rattle.calls.specs.declared.lines.NextLine.{NextLine}
 
 -- a lent buffer after the call of a frame: a clock reading alone writes to it
-abbrev pub lentAfter : Frame → Outcome → List ℕ → List ℕ
-lentAfter (frame.Event e) o b = b
-lentAfter (frame.Cancel i) o b = b
-lentAfter (frame.Clock t) o b = o .bytes
-lentAfter (frame.Program n p d) o b = b
-lentAfter (frame.Ask c) o b = b
+abbrev pub bufferAfter : Frame → Outcome → List ℕ → List ℕ
+bufferAfter (frame.Event e) o b = b
+bufferAfter (frame.Cancel i) o b = b
+bufferAfter (frame.Clock t) o b = o .bytes
+bufferAfter (frame.Program n p d) o b = b
+bufferAfter (frame.Ask c) o b = b
 
 -- Frames and image, a frame: what its call gives and leaves, with the buffer that is lent for rows
 unfoldable pub frameOutcome : Schedule → Frame → List ℕ → Outcome
 frameOutcome s f b =
     let o = call s (frameCall f b) in
-    record { number = o .number; value = o .value; state = o .state; bytes = lentAfter f o b; records = [] }
+    record { number = o .number; value = o .value; state = o .state; bytes = bufferAfter f o b; records = [] }
 
 -- Numbers given, 1: a line that is no frame is refused before anything else
 abbrev pub decodedOutcome : Schedule → Line → List ℕ → Outcome

@@ -85,11 +85,11 @@ abbrev pub headOf : Schedule → Head
 headOf s = record { clock = s .clock; count = s .count; programs = s .programs }
 
 -- what the rest of a schedule and the slots in use say
-abbrev pub stateOf : Head → List (List ℕ) → State
-stateOf d w = record { clock = d .clock; programs = d .programs; entries = map entryOf (take (d .count) w) }
+abbrev pub slotState : Head → List (List ℕ) → State
+slotState d w = record { clock = d .clock; programs = d .programs; entries = map entryOf (take (d .count) w) }
 
 abbrev pub scheduleOf : Head → List (List ℕ) → Schedule
-scheduleOf d w = pad (stateOf d w)
+scheduleOf d w = pad (slotState d w)
 
 -- n of the slots are in use
 pub record InUse (n : ℕ) (w : List (List ℕ)) : Type 0 where
@@ -102,7 +102,7 @@ pub record CanTake (s : Schedule) (w : List (List ℕ)) : Type 0 where
   pub size : length w ≡ mostEvents
 
 -- the slots have the events of a schedule
-pub record Apart (s : Schedule) (w : List (List ℕ)) : Type 0 where
+pub record TakenApart (s : Schedule) (w : List (List ℕ)) : Type 0 where
   pub size : length w ≡ mostEvents
   pub same : scheduleOf (headOf s) w ≡ s
 

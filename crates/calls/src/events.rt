@@ -6,9 +6,9 @@ ghost use lib.ListN.{take};
 ghost use Rattle.rules.specs.Records.{lastClock, idNumber, idOf};
 ghost use Rattle.rules.specs.Refusals.{late, firstOf};
 ghost use Rattle.rules.specs.Calls.{call, deliver, cancel, checks};
-ghost use Rattle.calls.specs.Slots.{entryOf, stateOf, scheduleOf, InUse, Ready};
+ghost use Rattle.calls.specs.Slots.{entryOf, slotState, scheduleOf, InUse, Ready};
 ghost use Rattle.calls.specs.Answered.{Acts};
-ghost use Rattle.calls.specs.Found.{Placed, Found, FoundIn, CanOpen, widened};
+ghost use Rattle.calls.specs.Found.{PlaceOf, Found, FoundIn, CanOpen, widened};
 use crate::Acted;
 use crate::held;
 use crate::held::Head;
@@ -30,7 +30,7 @@ struct Place {
 // How many of the first n slots have a smaller id.
 fn below(slots: &Slots, n: usize, id: Id) -> usize
     requires { ⌜ InUse n (now slots) ⌝ }
-    ensures { λ r. ⌜ Placed (map entryOf (take n (now (slots .entry)))) (idNumber id) r ⌝ }
+    ensures { λ r. ⌜ PlaceOf (map entryOf (take n (now (slots .entry)))) (idNumber id) r ⌝ }
 {
     let mut i = 0;
     while i < n {
@@ -45,7 +45,7 @@ fn below(slots: &Slots, n: usize, id: Id) -> usize
 // The slots in use stand by ascending id, so none but the first that is not smaller can bear it.
 fn place_of(d: Head, slots: &Slots, id: Id) -> Place
     requires { ⌜ Ready d (now slots) ⌝ }
-    ensures { λ r. ⌜ Found (stateOf d (now (slots .entry)) .entries) (idNumber id) r ⌝ }
+    ensures { λ r. ⌜ Found (slotState d (now (slots .entry)) .entries) (idNumber id) r ⌝ }
 {
     let n = d.count;
     let at = below(slots, n, id);
@@ -70,7 +70,7 @@ fn is_late(e: Event, clock: u64) -> bool
 // Numbers given, of a delivery in checking order, 0 for none.
 fn number(d: Head, slots: &Slots, e: Event, p: Place) -> u8
     requires { ⌜ FoundIn d (now slots) (idOf e) p ⌝ }
-    ensures { λ r. ⌜ r ≡ firstOf (checks (stateOf d (now (slots .entry))) (deliver e)) ⌝ }
+    ensures { λ r. ⌜ r ≡ firstOf (checks (slotState d (now (slots .entry))) (deliver e)) ⌝ }
 {
     if Program::LAST < e.program {
         return 3;

@@ -7,7 +7,7 @@ ghost use Prim.Native.Nat.{_<_};
 ghost use lib.ListN.{getD};
 ghost use Rattle.rules.specs.Records.{mostEvents};
 ghost use Rattle.rules.specs.Holding.{withHolding};
-ghost use Rattle.calls.specs.Slots.{entryOf, headOf, scheduleOf, InUse, CanTake, Apart};
+ghost use Rattle.calls.specs.Slots.{entryOf, headOf, scheduleOf, InUse, CanTake, TakenApart};
 use rules::Entry;
 use rules::Event;
 use rules::Id;
@@ -69,7 +69,7 @@ pub(crate) type Masks = [u32; Schedule::EVENTS];
 
 pub(crate) type Places = [u8; Schedule::EVENTS];
 
-pub(crate) type Codes = [u8; Schedule::EVENTS];
+pub(crate) type RowCodes = [u8; Schedule::EVENTS];
 
 // What a schedule has besides its events.
 pub(crate) struct Head {
@@ -197,7 +197,7 @@ pub(crate) fn head_of(s: Schedule) -> Head
 // The events of a schedule into slots.
 pub(crate) fn take_apart(s: Schedule, slots: &mut Slots)
     requires { ⌜ CanTake s (now slots) ⌝ }
-    ensures { λ _. ⌜ Apart s (now (slots .exit)) ⌝ }
+    ensures { λ _. ⌜ TakenApart s (now (slots .exit)) ⌝ }
 {
     let n = s.count;
     let mut i = 0;

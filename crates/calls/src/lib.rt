@@ -152,7 +152,8 @@ pub fn act(s: Schedule, line: &[u8], buffer: &mut [u8]) -> Answered
 }
 
 // Frames and image, the program. Acts on each line that ends with a line feed and writes what the program prints for it over the front of `out`, one text
-// after the other. It stops before a line when less than `text::MOST` bytes of room are left. It checks the schedule once, and keeps it to itself from line to line.
+// after the other. It stops before a line when less than `text::MOST` bytes of room are left. It checks the schedule once, and keeps it to itself from line
+// to line.
 pub fn run(s: Schedule, lines: &[u8], out: &mut [u8]) -> Ran
     ensures { λ r. ⌜ ranOf r (now (out .exit)) ≡ runOutcome s (now (lines .entry)) (now (out .entry)) ⌝ }
 {
@@ -166,8 +167,8 @@ pub fn run(s: Schedule, lines: &[u8], out: &mut [u8]) -> Ran
     }
 }
 
-// Frames and image, the program. Runs one after the other write what document 01 has printed for the whole text, wherever the text is cut and whatever room each
-// run has; and one run does, if there is room. This function does nothing: it carries the theorem as its promise.
+// Frames and image, the program. Runs one after the other write what document 01 has printed for the whole text, wherever the text is cut and whatever room
+// each run has; and one run does, if there is room. This function does nothing: it carries the theorem as its promise.
 pub fn whole_text()
     ensures { λ _. ⌜ WholeText ⌝ }
 {}

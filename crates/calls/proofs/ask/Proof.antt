@@ -22,8 +22,7 @@ good c = sym (c .before .is-sound .ensures) ∙ not-false (c .before .is-sound .
 ask-requires : tie.Need-ask-requires
 ask-requires c κs =
     let head = c .before in
-    let apart = head .before in
-    ready (head .head-of .ensures) (apart .take-apart .ensures) (good (apart .before .before))
+    ready (head .head-of .ensures) (head .before .take-apart .ensures) (good (head .before .before .before))
 
 returns-2 : tie.Need-returns-2
 returns-2 c =

@@ -13,7 +13,7 @@ use Rattle.rules.specs.Refusals.{cancelChecks}
 use Rattle.rules.specs.Calls.{cancel, code, does, checks, call}
 use Rattle.calls.specs.declared.held.Head.{Head}
 use Rattle.calls.specs.declared.events.Place.{Place}
-use Rattle.calls.specs.Slots.{entryOf, stateOf, scheduleOf, InUse, Ready}
+use Rattle.calls.specs.Slots.{entryOf, slotState, scheduleOf, InUse, Ready}
 use Rattle.calls.specs.Found.{Found}
 use Rattle.calls.proofs.Slots.{within, slot-at, sound-of}
 use Rattle.calls.proofs.Placing.{stopped, put-over}
@@ -22,7 +22,7 @@ use Rattle.calls.proofs.events.cancel.Statement.{statement}
 use Rattle.calls.proofs.events.cancel.Tie as tie
 
 -- the event h in its slot is stopped there
-marks : {d : Head} {w : List (List ℕ)} {i : ℕ} {p : Place} → Ready d w → Found (stateOf d w .entries) i p → p .held ≡ true
+marks : {d : Head} {w : List (List ℕ)} {i : ℕ} {p : Place} → Ready d w → Found (slotState d w .entries) i p → p .held ≡ true
     → (h : Entry) → h ≡ entryOf (getD w (p .at) []) → (x : List ℕ) → entryOf x ≡ stopped h → (m : Bool) → h .cancelled ≡ m
     → record { number = 0; value = cond m (code 0) (code 6); state = scheduleOf d (set w (p .at) x); bytes = []; records = [] } ≡ call (scheduleOf d w) (cancel i)
 unfolding does checks cancelChecks

@@ -16,7 +16,7 @@ use Rattle.rules.specs.Refusals.{firstOf, find}
 use Rattle.rules.specs.Calls.{Done, deliver, entry, received, receive, checks, does, accepted, call}
 use Rattle.calls.specs.declared.held.Head.{Head}
 use Rattle.calls.specs.declared.events.Place.{Place}
-use Rattle.calls.specs.Slots.{stateOf, scheduleOf, Ready}
+use Rattle.calls.specs.Slots.{slotState, scheduleOf, Ready}
 use Rattle.calls.specs.Found.{Found, CanOpen}
 use Rattle.calls.proofs.Slots.{count-of, sound-of}
 use Rattle.calls.proofs.Placing.{put-in, put-in-long}
@@ -29,12 +29,12 @@ abbrev delivered : State → Event → Option Entry → Done
 delivered s e old = record { state = receive s e old; value = received old; bytes = []; records = [] }
 
 -- past every number, what the call does with what is held
-taken-in : {d : Head} {w : List (List ℕ)} {p : Place} (e : Event) → Ready d w → Found (stateOf d w .entries) (idOf e) p → firstOf (checks (stateOf d w) (deliver e)) ≡ 0
-    → (b : Bool) → p .held ≡ b → accepted (delivered (stateOf d w) e (cond b (some (getD (stateOf d w .entries) (p .at) noEntry)) none)) ≡ call (scheduleOf d w) (deliver e)
+taken-in : {d : Head} {w : List (List ℕ)} {p : Place} (e : Event) → Ready d w → Found (slotState d w .entries) (idOf e) p → firstOf (checks (slotState d w) (deliver e)) ≡ 0
+    → (b : Bool) → p .held ≡ b → accepted (delivered (slotState d w) e (cond b (some (getD (slotState d w .entries) (p .at) noEntry)) none)) ≡ call (scheduleOf d w) (deliver e)
 unfolding does
 taken-in e r f z b q = rw (found r f, q) at (sym (does-it r (deliver e) z))
 
-not-held : {d : Head} {w : List (List ℕ)} {i : ℕ} {p : Place} → Ready d w → Found (stateOf d w .entries) i p → p .held ≡ false → find i (stateOf d w .entries) ≡ none
+not-held : {d : Head} {w : List (List ℕ)} {i : ℕ} {p : Place} → Ready d w → Found (slotState d w .entries) i p → p .held ≡ false → find i (slotState d w .entries) ≡ none
 not-held r f q = rw q at (found r f)
 
 -- the place that was found, and where the function begins
@@ -51,7 +51,7 @@ returns c =
     refuses (begun .pre) (deliver (begun .args .e)) (n .result) (ne-eqb (n .result) 0 (c .if1 .taken)) refl (n .ensures)
 
 acts : (c : tie.Else1) (b : Bool) → let a = start (c .before) .args in let p = placed (c .before) .place-of .result in
-    let s = stateOf (a .d) (a .slots .now) in
+    let s = slotState (a .d) (a .slots .now) in
     p .held ≡ b → accepted (delivered s (a .e) (cond b (some (getD (s .entries) (p .at) noEntry)) none)) ≡ call (scheduleOf (a .d) (a .slots .now)) (deliver (a .e))
 acts c b q =
     let begun = start (c .before) in
@@ -61,7 +61,7 @@ returns-2 : tie.Need-returns-2
 returns-2 c = record { used = start (c .before .before) .pre .used; outcome = acts (c .before) true (c .if2 .taken) }
 
 -- what is not held is taken in at its place, and there is room
-free : (c : tie.Else2) → let a = start (c .before .before) .args in find (idOf (a .e)) (stateOf (a .d) (a .slots .now) .entries) ≡ none
+free : (c : tie.Else2) → let a = start (c .before .before) .args in find (idOf (a .e)) (slotState (a .d) (a .slots .now) .entries) ≡ none
 free c = let number = c .before .before in not-held (start number .pre) (placed number .place-of .ensures) (c .if2 .left)
 
 fits : (c : tie.Else2) → let a = start (c .before .before) .args in CanOpen (placed (c .before .before) .place-of .result .at) (a .d .count) (a .slots .now)

@@ -17,7 +17,7 @@ use Rattle.rules.specs.Refusals.{_if_, firstOf, isNone, differs, late, eventChe
 use Rattle.rules.specs.Calls.{deliver, checks}
 use Rattle.calls.specs.declared.held.Head.{Head}
 use Rattle.calls.specs.declared.events.Place.{Place}
-use Rattle.calls.specs.Slots.{stateOf}
+use Rattle.calls.specs.Slots.{slotState}
 use Rattle.calls.specs.Found.{FoundIn}
 use Rattle.calls.proofs.Slots.{within, slot-at, count-of, sound-of}
 use Rattle.calls.proofs.Acting.{found, inside}
@@ -32,7 +32,7 @@ rest s e o =
 -- past 7 the number hangs on what is held
 hangs : {d : Head} {w : List (List ℕ)} {p : Place} (e : Event) → FoundIn d w (idOf e) p → (b : Bool) → p .held ≡ b
     → e .program ≤ lastProgram → not (programAt (d .programs) (e .program) .added) ≡ false → malformed e ≡ false
-    → firstOf (checks (stateOf d w) (deliver e)) ≡ rest (stateOf d w) e (cond b (some (getD (stateOf d w .entries) (p .at) noEntry)) none)
+    → firstOf (checks (slotState d w) (deliver e)) ≡ rest (slotState d w) e (cond b (some (getD (slotState d w .entries) (p .at) noEntry)) none)
 unfolding checks eventChecks
 hangs e f b q n a m = rw (found (f .ready) (f .found), q, le-ltb lastProgram _ n, a, m)
 
@@ -58,7 +58,7 @@ returns-3 c =
     sym (rw (le-ltb lastProgram _ (numbered added .if1 .left), added .if2 .left, sym (c .before .is-malformed .ensures) ∙ c .if3 .taken))
 
 past : (c : tie.Else3) (b : Bool) → let a = start (c .before .before) .args in
-    let s = stateOf (a .t1) (a .slots .now) in
+    let s = slotState (a .t1) (a .slots .now) in
     a .p .held ≡ b → firstOf (checks s (deliver (a .e))) ≡ rest s (a .e) (cond b (some (getD (s .entries) (a .p .at) noEntry)) none)
 past c b q =
     let added = c .before .before in
@@ -72,7 +72,7 @@ abbrev held : (c : tie.After-equals) → tie.Then4
 held c = c .before .before .before
 
 compared : (c : tie.After-equals) → let a = start (held c .before .before .before) .args in
-    firstOf (checks (stateOf (a .t1) (a .slots .now)) (deliver (a .e))) ≡ cond (not (c .equals .result)) 8 0
+    firstOf (checks (slotState (a .t1) (a .slots .now)) (deliver (a .e))) ≡ cond (not (c .equals .result)) 8 0
 compared c =
     let begun = start (held c .before .before .before) in
     let a = begun .args in
@@ -99,7 +99,7 @@ new c = c .before .before
 
 -- past 9 there is room or not
 soon : (c : tie.Else6) → let a = start (new c .before .before .before) .args in
-    firstOf (checks (stateOf (a .t1) (a .slots .now)) (deliver (a .e))) ≡ cond (leb mostEvents (a .t1 .count)) 10 0
+    firstOf (checks (slotState (a .t1) (a .slots .now)) (deliver (a .e))) ≡ cond (leb mostEvents (a .t1 .count)) 10 0
 soon c =
     let begun = start (new c .before .before .before) in
     past (new c .before) false (new c .if4 .left)

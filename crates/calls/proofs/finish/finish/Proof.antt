@@ -5,18 +5,18 @@ use Prim.Native.Nat.{_-_, _≤_}
 use native.Mathlib.Omega.{arith}
 use borrow.Author.Needs.{needs}
 use Rattle.rules.specs.Holding.{endOf}
-use Rattle.calls.proofs.Finishing.{Moved, none-moved, dropped, kept, stayed, all-moved}
+use Rattle.calls.proofs.Finishing.{Gathered, none-gathered, dropped, kept, stayed, all-gathered}
 use Rattle.calls.proofs.finish.finish.Statement.{statement}
 use Rattle.calls.proofs.finish.finish.Tie as tie
 
 abbrev Inv-loop : tie.InvT-loop
-Inv-loop slots₀ n to k₀ i₀ slots k i = (i ≤ n) × Moved to i slots₀ slots k
+Inv-loop slots₀ n to k₀ i₀ slots k i = (i ≤ n) × Gathered to i slots₀ slots k
 
 abbrev μ-loop : tie.MeasureT-loop
 μ-loop slots₀ n to k₀ i₀ slots k i = n - i
 
 loop-holds : tie.Need-loop-holds Inv-loop μ-loop
-loop-holds c = (omega arith, none-moved (c .args .to) _ (c .pre .size))
+loop-holds c = (omega arith, none-gathered (c .args .to) _ (c .pre .size))
 
 loop-again : tie.Need-loop-again Inv-loop μ-loop
 loop-again c =
@@ -42,7 +42,7 @@ loop-again c =
 returns : tie.Need-returns Inv-loop μ-loop
 returns c =
     let z : c .before .loop .i ≡ c .before .before .args .n = omega arith in
-    all-moved (c .before .before .pre .few) (rw z at (c .before .loop .inv .1))
+    all-gathered (c .before .before .pre .few) (rw z at (c .before .loop .inv .1))
 
 pub finish-spec : {M : Type 1} → statement M
 finish-spec =

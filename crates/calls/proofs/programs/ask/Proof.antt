@@ -6,7 +6,7 @@ use borrow.Author.Needs.{needs}
 use borrow.Author.Tests.{lt-ltb, le-ltb}
 use Rattle.rules.specs.Refusals.{askChecks}
 use Rattle.rules.specs.Calls.{ask, holderIn, answerFor, does, checks}
-use Rattle.calls.specs.Slots.{stateOf, scheduleOf}
+use Rattle.calls.specs.Slots.{slotState, scheduleOf}
 use Rattle.calls.proofs.Acting.{refuses, does-it}
 use Rattle.calls.proofs.programs.ask.Statement.{statement}
 use Rattle.calls.proofs.programs.ask.Tie as tie
@@ -23,7 +23,7 @@ returns-2 c =
     let control = c .before .before .before in
     let start = control .before in
     let a = start .args in
-    let s = stateOf (a .d) (a .slots .now) in
+    let s = slotState (a .d) (a .slots .now) in
     ap₂ (λ n v. record { number = n; value = v; state = scheduleOf (a .d) (a .slots .now); bytes = []; records = [] }) (c .holder-or .ensures .number)
     (c .holder-or .ensures .value ∙ ap (holderIn (a .control) (s .entries)) (c .before .default-of .ensures .value))
     ∙ sym (does-it (start .pre) (ask (a .control)) (rw (le-ltb lastControl (a .control) (control .if1 .left))))
