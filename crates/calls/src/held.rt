@@ -89,6 +89,7 @@ fn mark(cancelled: bool) -> u64
     0
 }
 
+// The numbers of an event, in the order of their places.
 pub(crate) fn slot_of(h: Entry) -> Slot
     ensures { λ r. ⌜ entryOf r ≡ h ⌝ }
 {
