@@ -23,8 +23,8 @@ use Rattle.rules.proofs.SoundState.{Sound, ById, sound-view, rules, in-count}
 use Rattle.rules.proofs.Bound.{few-rows}
 use Rattle.rules.proofs.Jump.{onward, Idle}
 use Rattle.calls.specs.declared.held.Head.{Head}
-use Rattle.calls.specs.Slots.{entryOf, stateOf, scheduleOf, Ready}
-use Rattle.calls.specs.Columns.{primaciesOf, createdOf, idsOf, Numbered, Running, Dated, Claims, Codes, nextOf, momentRows, Written}
+use Rattle.calls.specs.Slots.{entryOf, slotState, scheduleOf, Ready}
+use Rattle.calls.specs.Columns.{primaciesOf, createdOf, idsOf, Numbered, Uncancelled, MomentColumns, Claims, Codes, nextOf, momentRows, Written}
 use Rattle.calls.specs.Held.{Columns, columnsOf, Columned, Long}
 use Rattle.calls.specs.Settled.{claimants, settled}
 use Rattle.calls.specs.Live.{placesTo, masked}
@@ -209,7 +209,7 @@ module _ {d : Head} {w : List (List ℕ)} (r : Ready d w) where
   column : (f : Entry → ℕ) (k : ℕ) → k < d .count → getD (map (λ x. f (entryOf x)) w) k 0 ≡ f (getD (whole-of .entries) k noEntry)
   column f k l = at-map (λ x. f (entryOf x)) [] 0 w k (omega (arith, within r)) ∙ sym (ap f (entry-at r k l))
 
-  module _ (running : Running (d .count) w) (begins ends carried held : List ℕ) (t : Dated (d .count) w begins ends carried held) where
+  module _ (running : Uncancelled (d .count) w) (begins ends carried held : List ℕ) (t : MomentColumns (d .count) w begins ends carried held) where
     abbrev columns : Columns
     columns = columnsOf (d .programs) w begins ends carried
 
@@ -226,7 +226,7 @@ module _ {d : Head} {w : List (List ℕ)} (r : Ready d w) where
     }
 
     long-of : Long columns
-    long-of = record { primacies = primacies-long w (d .programs) ∙ r .size; created = created-long w ∙ r .size; ids = ids-long w ∙ r .size }
+    long-of = record { primacies = primacies-long w (d .programs) ∙ r .used .size; created = created-long w ∙ r .used .size; ids = ids-long w ∙ r .used .size }
 
     pub begin : (to : ℕ) (old : List ℕ) → d .clock ≤ to → to ≤ lastClock → length old ≡ rowsSize → Going whole-of to (d .count) columns old old held (d .clock) 0
     begin to old h l size =
@@ -237,5 +237,5 @@ module _ {d : Head} {w : List (List ℕ)} (r : Ready d w) where
   -- the events of sound slots have programs
   pub numbered : Numbered (d .count) w
   numbered k l =
-      let it = sound-of r .entries (getD (stateOf d w .entries) k noEntry) (at-in noEntry (stateOf d w .entries) k (omega (arith, count-of r))) in
+      let it = sound-of r .entries (getD (slotState d w .entries) k noEntry) (at-in noEntry (slotState d w .entries) k (omega (arith, count-of r))) in
       omega (arith, rw (slot-at w (d .count) (within r) k l) at (it .numbered))

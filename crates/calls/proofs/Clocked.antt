@@ -68,8 +68,7 @@ module _ {d : Head} {w : List (List ℕ)} (r : Ready d w) (t : ℕ) (rows : List
   reads-none q l =
       let out = out-of-range (scheduleOf d w) (r .good) t q in
       record {
-        size = r .size;
-        count = r .count;
+        used = r .used;
         long = l;
         number = λ b m. ap (λ (o : Outcome). o .number) (out b);
         value = λ b m. ap (λ (o : Outcome). o .value) (out b);
@@ -86,8 +85,7 @@ module _ {d : Head} {w : List (List ℕ)} (r : Ready d w) (t : ℕ) (rows : List
       let is : (b : List ℕ) → length b ≡ rowsSize → record { number = 0; value = count (p .rows); state = end; bytes = over (take (rowSize * p .rows) rows) b; records = [] } ≡ call s (setClock t b) =
       λ b m. fits s (r .good) t q rows end (p .rows) v b (omega (arith, few s (r .good) t q rows end (p .rows) v)) in
       record {
-        size = a .size;
-        count = a .count;
+        used = a .used;
         long = v .size;
         number = λ b m. ap (λ (o : Outcome). o .number) (is b m);
         value = λ b m. ap (λ (o : Outcome). o .value) (is b m);

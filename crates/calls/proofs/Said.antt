@@ -15,7 +15,7 @@ use Rattle.rules.specs.declared.Id.{Id}
 use Rattle.rules.specs.declared.Schedule.{Schedule}
 use Rattle.rules.specs.declared.Frame.{Frame}
 use Rattle.rules.specs.declared.Frame.the-variants as frame
-use Rattle.rules.specs.Records.{mostEvents, idOf, has, view, idNumber}
+use Rattle.rules.specs.Records.{idOf, has, view, idNumber}
 use Rattle.rules.specs.Bytes.{read}
 use Rattle.rules.specs.Sound.{sound}
 use Rattle.rules.specs.Refusals.{find}
@@ -31,7 +31,7 @@ use Rattle.calls.specs.Answered.{Acts}
 use Rattle.calls.specs.Advanced.{Reads}
 use Rattle.calls.specs.Says.{ActsOn, Says}
 use Rattle.calls.specs.declared.lines.Telling.{Telling}
-use Rattle.calls.specs.Slots.{scheduleOf}
+use Rattle.calls.specs.Slots.{scheduleOf, InUse}
 use Rattle.text.specs.Texts.{Stands, mostText, ifRoom}
 
 -- Rows are read off the front of a buffer alone.
@@ -66,8 +66,7 @@ module _ {s : Schedule} {r : Acted} {w : List (List ℕ)} {rows : List ℕ} wher
   on f T is long a =
       let v = ap (λ (o : Outcome). o .value) (a .outcome) in
       record {
-        size = a .size;
-        count = a .count;
+        used = a .used;
         long = long;
         number = ap (λ (o : Outcome). o .number) (a .outcome);
         value = v;
@@ -89,8 +88,7 @@ module _ {s : Schedule} {r : Acted} {w : List (List ℕ)} {rows : List ℕ} wher
 
   pub on-clock : (t : ℕ) → Reads s t r w rows → ActsOn s (frame.Clock t) r w rows
   on-clock t a = record {
-    size = a .size;
-    count = a .count;
+    used = a .used;
     long = a .long;
     number = a .number room refl;
     value = a .value room refl;
@@ -147,11 +145,10 @@ call-counted s (list r) = from-done s (list r) (λ e. omega (arith, sound-view s
 -- A line.
 
 module _ (s : Schedule) {old new : List ℕ} {at : ℕ} {w : List (List ℕ)} {rows : List ℕ} (fits : at + mostText ≤ length old) where
-  pub says-bad : (r : Telling) → length w ≡ mostEvents → r .head .count ≤ mostEvents → length rows ≡ 1632 → scheduleOf (r .head) w ≡ s
+  pub says-bad : (r : Telling) → InUse (r .head .count) w → length rows ≡ 1632 → scheduleOf (r .head) w ≡ s
       → Stands old at (ifRoom 29 at old (refusedText 1)) new (r .behind) → Says s Bad old at r w rows new
-  says-bad r size count long same p = record {
-    size = size;
-    count = count;
+  says-bad r used long same p = record {
+    used = used;
     long = long;
     state = same;
     text = rw (le-leb (at + 29) (length old) (omega arith)) at p;
@@ -166,8 +163,7 @@ module _ (s : Schedule) {old new : List ℕ} {at : ℕ} {w : List (List ℕ)} {r
       let o : Outcome = record { number = numberOf (a .answer); value = valueOf (a .answer); state = s; bytes = rows; records = [] } in
       let few : counted (valueOf (a .answer)) ≤ 96 = rw (t .value) (call-counted s (frameCall f room)) in
       record {
-        size = t .size;
-        count = t .count;
+        used = t .used;
         long = t .long;
         state = t .state;
         text = rw (eq-eqb (length rows) 1632 (t .long), le-leb (counted (valueOf (a .answer))) 96 few, le-leb (at + mostText) (length old) fits, t .text (s .clock) o refl refl, t .number) at (told o refl refl refl);

@@ -9,7 +9,7 @@ use Rattle.rules.specs.Records.{noEntry, view}
 use Rattle.rules.proofs.SoundState.{Sound, view-pad, sound-view}
 use Rattle.calls.specs.declared.held.Head.{Head}
 use Rattle.rules.specs.Holding.{withHolding}
-use Rattle.calls.specs.Slots.{idPlace, programPlace, controlsPlace, createdPlace, startPlace, durationPlace, randomizeStartPlace, randomizeDurationPlace, startDrawPlace, durationDrawPlace, beginsPlace, heldPlace, cancelledPlace, slotSize, values32, entryOf, stateOf, scheduleOf, Ready}
+use Rattle.calls.specs.Slots.{idPlace, programPlace, controlsPlace, createdPlace, startPlace, durationPlace, randomizeStartPlace, randomizeDurationPlace, startDrawPlace, durationDrawPlace, beginsPlace, heldPlace, cancelledPlace, slotSize, values32, entryOf, slotState, scheduleOf, Ready}
 use Rattle.calls.proofs.Reached.{at-map}
 
 module _ (w : List (List ℕ)) (n : ℕ) (fits : n ≤ length w) where
@@ -21,21 +21,21 @@ module _ (w : List (List ℕ)) (n : ℕ) (fits : n ≤ length w) where
 
 module _ {d : Head} {w : List (List ℕ)} (r : Ready d w) where
   pub within : d .count ≤ length w
-  within = omega (arith, r .count, r .size)
+  within = omega (arith, r .used .few, r .used .size)
 
   -- as many events as there are slots in use
   pub count-of : scheduleOf d w .count ≡ d .count
   count-of = in-slots w (d .count) within
 
-  pub view-of : view (scheduleOf d w) ≡ stateOf d w
-  view-of = view-pad (stateOf d w)
+  pub view-of : view (scheduleOf d w) ≡ slotState d w
+  view-of = view-pad (slotState d w)
 
-  pub sound-of : Sound (stateOf d w)
+  pub sound-of : Sound (slotState d w)
   sound-of = subst Sound view-of (sound-view (scheduleOf d w) (r .good))
 
   -- the entry at a place is the event in its slot
   pub entry-at : (k : ℕ) → k < d .count → getD (scheduleOf d w .entries) k noEntry ≡ entryOf (getD w k [])
-  entry-at k l = List·getD-append (stateOf d w .entries) _ noEntry k (omega (arith, count-of)) ∙ slot-at w (d .count) within k l
+  entry-at k l = List·getD-append (slotState d w .entries) _ noEntry k (omega (arith, count-of)) ∙ slot-at w (d .count) within k l
 
 module _ (slot : List ℕ) (l : length slot ≡ slotSize) where
   -- a slot with another mask

@@ -1,6 +1,6 @@
 -- What the core of the clock call leaves.
 use mathlib.Core.Path.{_≡_}
-use Prim.Native.Nat.{ℕ, _*_, _≤_}
+use Prim.Native.Nat.{ℕ, _*_}
 use mathlib.Core.List.{List}
 use lib.ListN.{length, take}
 use Rattle.rules.specs.declared.Schedule.{Schedule}
@@ -12,7 +12,7 @@ use Rattle.rules.specs.Calls.{numberOf, valueOf, counted, setClock, call}
 use Rattle.calls.specs.declared.Acted.{Acted}
 use Rattle.calls.specs.declared.advance.Passed.{Passed}
 use Rattle.calls.specs.declared.held.Head.{Head}
-use Rattle.calls.specs.Slots.{scheduleOf}
+use Rattle.calls.specs.Slots.{scheduleOf, InUse}
 use Rattle.calls.specs.Live.{masked}
 
 -- the schedule at the reading, how many rows there are, and their bytes at the front of the buffer
@@ -32,14 +32,12 @@ pub record Passes (s : Schedule) (reading : ℕ) (buffer : List ℕ) (count : �
 
 -- the same of a schedule in slots
 pub record Advances (d : Head) (w : List (List ℕ)) (reading : ℕ) (buffer : List ℕ) (r : Passed) (next : List (List ℕ)) : Type 0 where
-  pub size : length next ≡ mostEvents
-  pub count : r .head .count ≤ mostEvents
+  pub used : InUse (r .head .count) next
   pub advanced : Advanced (scheduleOf d w) reading buffer (scheduleOf (r .head) next) (r .rows)
 
 -- what a clock call on slots gives and leaves: what it would with any buffer that all rows fit, and the bytes of the rows at the front of its own
 pub record Reads (s : Schedule) (reading : ℕ) (r : Acted) (next : List (List ℕ)) (rows : List ℕ) : Type 0 where
-  pub size : length next ≡ mostEvents
-  pub count : r .head .count ≤ mostEvents
+  pub used : InUse (r .head .count) next
   pub long : length rows ≡ rowsSize
   pub number : (b : List ℕ) → length b ≡ rowsSize → numberOf (r .answer) ≡ call s (setClock reading b) .number
   pub value : (b : List ℕ) → length b ≡ rowsSize → valueOf (r .answer) ≡ call s (setClock reading b) .value

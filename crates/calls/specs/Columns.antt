@@ -27,11 +27,11 @@ abbrev pub Numbered : ℕ → List (List ℕ) → Type 0
 Numbered n w = (k : ℕ) → k < n → entryOf (getD w k []) .event .program < mostPrograms
 
 -- none of the events of the first n slots is cancelled
-abbrev pub Running : ℕ → List (List ℕ) → Type 0
-Running n w = (k : ℕ) → k < n → entryOf (getD w k []) .cancelled ≡ false
+abbrev pub Uncancelled : ℕ → List (List ℕ) → Type 0
+Uncancelled n w = (k : ℕ) → k < n → entryOf (getD w k []) .cancelled ≡ false
 
 -- the columns that a moment looks at, for the first n slots: effective start and end, the controls that it carries, held mask
-pub record Dated (n : ℕ) (w : List (List ℕ)) (begins ends carried held : List ℕ) : Type 0 where
+pub record MomentColumns (n : ℕ) (w : List (List ℕ)) (begins ends carried held : List ℕ) : Type 0 where
   pub long : (length begins ≡ mostEvents) × (length ends ≡ mostEvents) × (length carried ≡ mostEvents) × (length held ≡ mostEvents)
   pub from : (k : ℕ) → k < n → getD begins k 0 ≡ entryOf (getD w k []) .begins
   pub till : (k : ℕ) → k < n → getD ends k 0 ≡ endOf (entryOf (getD w k []))

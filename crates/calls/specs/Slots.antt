@@ -8,6 +8,7 @@ use lib.ListN.{length, take, getD}
 use Rattle.rules.specs.declared.Entry.{Entry}
 use Rattle.rules.specs.declared.Schedule.{Schedule}
 use Rattle.rules.specs.Records.{State, mostEvents, lastControl, eventOf, pad}
+use Rattle.rules.specs.Bytes.{rowsSize}
 use Rattle.rules.specs.Sound.{sound}
 use Rattle.calls.specs.declared.held.Head.{Head}
 
@@ -84,19 +85,33 @@ abbrev pub headOf : Schedule → Head
 headOf s = record { clock = s .clock; count = s .count; programs = s .programs }
 
 -- what the rest of a schedule and the slots in use say
-abbrev pub stateOf : Head → List (List ℕ) → State
-stateOf d w = record { clock = d .clock; programs = d .programs; entries = map entryOf (take (d .count) w) }
+abbrev pub slotState : Head → List (List ℕ) → State
+slotState d w = record { clock = d .clock; programs = d .programs; entries = map entryOf (take (d .count) w) }
 
 abbrev pub scheduleOf : Head → List (List ℕ) → Schedule
-scheduleOf d w = pad (stateOf d w)
+scheduleOf d w = pad (slotState d w)
+
+-- n of the slots are in use
+pub record InUse (n : ℕ) (w : List (List ℕ)) : Type 0 where
+  pub few : n ≤ mostEvents
+  pub size : length w ≡ mostEvents
+
+-- a schedule whose events can be put into the slots
+pub record CanTake (s : Schedule) (w : List (List ℕ)) : Type 0 where
+  pub good : sound s ≡ true
+  pub size : length w ≡ mostEvents
 
 -- the slots have the events of a schedule
-pub record Apart (s : Schedule) (w : List (List ℕ)) : Type 0 where
+pub record TakenApart (s : Schedule) (w : List (List ℕ)) : Type 0 where
   pub size : length w ≡ mostEvents
   pub same : scheduleOf (headOf s) w ≡ s
 
 -- slots that a call can be made on
 pub record Ready (d : Head) (w : List (List ℕ)) : Type 0 where
-  pub size : length w ≡ mostEvents
-  pub count : d .count ≤ mostEvents
+  pub used : InUse (d .count) w
   pub good : sound (scheduleOf d w) ≡ true
+
+-- and a buffer that all rows fit
+pub record Lent (d : Head) (w : List (List ℕ)) (rows : List ℕ) : Type 0 where
+  pub ready : Ready d w
+  pub long : length rows ≡ rowsSize

@@ -5,15 +5,15 @@ ghost use lib.ListN.{length};
 ghost use Rattle.rules.specs.Records.{mostEvents, lastClock};
 ghost use Rattle.rules.specs.Bytes.{rowsSize};
 ghost use Rattle.calls.specs.Slots.{scheduleOf, Ready};
-ghost use Rattle.calls.specs.Columns.{Running};
+ghost use Rattle.calls.specs.Columns.{Uncancelled};
 ghost use Rattle.calls.specs.Live.{slotsAt, Placed};
 ghost use Rattle.calls.specs.Advanced.{Passes, Advances};
 use crate::clock;
 use crate::finish;
-use crate::held::Codes;
 use crate::held::Head;
 use crate::held::Masks;
 use crate::held::Places;
+use crate::held::RowCodes;
 use crate::held::Rows;
 use crate::held::Slots;
 use crate::held::Times;
@@ -26,7 +26,8 @@ pub(crate) struct Passed {
     pub(crate) rows: usize,
 }
 
-// All moments up to a reading at which one of the events at the places begins or ends; `held` ends as the masks that they hold then. Returns how many rows there are.
+// All moments up to a reading at which one of the events at the places begins or ends; `held` ends as the masks that they hold then. Returns how many rows
+// there are.
 fn moments(
     d: Head,
     slots: &Slots,
@@ -35,7 +36,8 @@ fn moments(
     rows: &mut Rows,
     held: &mut Masks,
 ) -> usize
-    requires { ⌜ (length (now slots) ≡ mostEvents) × Placed (d .count) (now places) × Ready d (slotsAt (now slots) (now places)) × Running (d .count) (slotsAt (now slots) (now places)) ⌝ }
+    requires { ⌜ (length (now slots) ≡ mostEvents) × Placed (d .count) (now places)
+        × Ready d (slotsAt (now slots) (now places)) × Uncancelled (d .count) (slotsAt (now slots) (now places)) ⌝ }
     requires { ⌜ (d .clock ≤ to) × (to ≤ lastClock) × (length (now rows) ≡ rowsSize) × (length (now held) ≡ mostEvents) ⌝ }
     ensures { λ r. ⌜ Passes (scheduleOf d (slotsAt (now (slots .entry)) (now (places .entry)))) to (now (rows .exit)) r (now (held .exit)) ⌝ }
 {
@@ -47,7 +49,7 @@ fn moments(
     let mut carried: Masks = [0; Schedule::EVENTS];
     clock::columns_of(slots, places, n, &mut begins, &mut ends, &mut carried, held);
     let mut kept: Masks = [0; Schedule::EVENTS];
-    let mut codes: Codes = [0; Schedule::EVENTS];
+    let mut codes: RowCodes = [0; Schedule::EVENTS];
     let limit = to + 1;
     let mut t = clock::next_moment(from, limit, &begins, &ends, n);
     let mut at = 0;

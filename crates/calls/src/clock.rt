@@ -1,18 +1,19 @@
-// A moment, over columns of plain numbers: what the events at the first n places have. Nothing is dropped on the way: an event that has ended claims nothing and gives no
-// row, so it is enough to drop it after the last moment. None of these events is cancelled.
+// A moment, over columns of plain numbers: what the events at the first n places have. Nothing is dropped on the way: an event that has ended claims nothing
+// and gives no row, so it is enough to drop it after the last moment. None of these events is cancelled.
 ghost use mathlib.Core.Path.{_≡_};
 ghost use Prim.Native.Nat.{_+_, _≤_, _<_, min};
 ghost use lib.ListN.{length};
 ghost use Rattle.rules.specs.Records.{mostEvents, mostRows, idNumber};
 ghost use Rattle.rules.specs.Bytes.{big, rowsSize};
 ghost use Rattle.calls.specs.Slots.{mostControls};
-ghost use Rattle.calls.specs.Columns.{idsOf, claimOf, codeOf, Dated, Claims, Codes, Gives, nearest, nextOf, rowIf, codedRows, momentRows, Put, Written};
+ghost use Rattle.calls.specs.Columns.{idsOf, claimOf, codeOf, MomentColumns, Claims, Codes, Gives, nearest, nextOf};
+ghost use Rattle.calls.specs.Columns.{rowIf, codedRows, momentRows, Put, Written};
 ghost use Rattle.calls.specs.Live.{slotsAt, Placed};
 ghost use Rattle.calls.specs.Settled.{Contested};
 use crate::held;
-use crate::held::Codes;
 use crate::held::Masks;
 use crate::held::Places;
+use crate::held::RowCodes;
 use crate::held::Rows;
 use crate::held::Slots;
 use crate::held::Times;
@@ -29,8 +30,10 @@ pub(crate) fn columns_of(
     carried: &mut Masks,
     held: &mut Masks,
 )
-    requires { ⌜ (n ≤ mostEvents) × (length (now slots) ≡ mostEvents) × Placed n (now places) × (length (now begins) ≡ mostEvents) × (length (now ends) ≡ mostEvents) × (length (now carried) ≡ mostEvents) × (length (now held) ≡ mostEvents) ⌝ }
-    ensures { λ _. ⌜ Dated n (slotsAt (now (slots .entry)) (now (places .entry))) (now (begins .exit)) (now (ends .exit)) (now (carried .exit)) (now (held .exit)) ⌝ }
+    requires { ⌜ (n ≤ mostEvents) × (length (now slots) ≡ mostEvents) × Placed n (now places)
+        × (length (now begins) ≡ mostEvents) × (length (now ends) ≡ mostEvents) × (length (now carried) ≡ mostEvents) × (length (now held) ≡ mostEvents) ⌝ }
+    ensures { λ _. ⌜ MomentColumns n (slotsAt (now (slots .entry)) (now (places .entry)))
+        (now (begins .exit)) (now (ends .exit)) (now (carried .exit)) (now (held .exit)) ⌝ }
 {
     let mut i = 0;
     while i < n {
@@ -176,10 +179,11 @@ pub(crate) fn codes_at(
     held: &Masks,
     kept: &Masks,
     n: usize,
-    codes: &mut Codes,
+    codes: &mut RowCodes,
 ) -> u32
     requires { ⌜ (n ≤ mostEvents) × (length (now codes) ≡ mostEvents) ⌝ }
-    ensures { λ r. ⌜ Codes t n (now (begins .entry)) (now (ends .entry)) (now (held .entry)) (now (kept .entry)) (now (codes .exit)) × Gives n (now (codes .exit)) r ⌝ }
+    ensures { λ r. ⌜ Codes t n (now (begins .entry)) (now (ends .entry)) (now (held .entry)) (now (kept .entry)) (now (codes .exit))
+        × Gives n (now (codes .exit)) r ⌝ }
 {
     let mut given = 0;
     let mut i = 0;
@@ -243,13 +247,14 @@ pub(crate) fn rows_with(
     t: u64,
     slots: &Slots,
     places: &Places,
-    codes: &Codes,
+    codes: &RowCodes,
     n: usize,
     k: u8,
 ) -> usize
     requires { ⌜ (n ≤ mostEvents) × (length (now rows) ≡ rowsSize) × (length (now slots) ≡ mostEvents) × Placed n (now places) ⌝ }
     requires { ⌜ from + length (codedRows t k n (idsOf (slotsAt (now slots) (now places))) (now codes)) ≤ mostRows ⌝ }
-    ensures { λ r. ⌜ Written (now (rows .entry)) from (now (rows .exit)) r (codedRows t k n (idsOf (slotsAt (now (slots .entry)) (now (places .entry)))) (now (codes .entry))) ⌝ }
+    ensures { λ r. ⌜ Written (now (rows .entry)) from (now (rows .exit)) r
+        (codedRows t k n (idsOf (slotsAt (now (slots .entry)) (now (places .entry)))) (now (codes .entry))) ⌝ }
 {
     let mut at = from;
     let mut i = 0;
@@ -274,14 +279,16 @@ fn rows_if(
     t: u64,
     slots: &Slots,
     places: &Places,
-    codes: &Codes,
+    codes: &RowCodes,
     n: usize,
     k: u8,
     given: u32,
 ) -> usize
-    requires { ⌜ (n ≤ mostEvents) × (length (now rows) ≡ rowsSize) × (length (now slots) ≡ mostEvents) × Placed n (now places) × (k < mostControls) × Gives n (now codes) given ⌝ }
+    requires { ⌜ (n ≤ mostEvents) × (length (now rows) ≡ rowsSize) × (length (now slots) ≡ mostEvents) × Placed n (now places)
+        × (k < mostControls) × Gives n (now codes) given ⌝ }
     requires { ⌜ from + length (codedRows t k n (idsOf (slotsAt (now slots) (now places))) (now codes)) ≤ mostRows ⌝ }
-    ensures { λ r. ⌜ Written (now (rows .entry)) from (now (rows .exit)) r (codedRows t k n (idsOf (slotsAt (now (slots .entry)) (now (places .entry)))) (now (codes .entry))) ⌝ }
+    ensures { λ r. ⌜ Written (now (rows .entry)) from (now (rows .exit)) r
+        (codedRows t k n (idsOf (slotsAt (now (slots .entry)) (now (places .entry)))) (now (codes .entry))) ⌝ }
 {
     if settle::is_in(given, k as u32) {
         return rows_with(rows, from, t, slots, places, codes, n, k);
@@ -296,13 +303,14 @@ pub(crate) fn rows_at(
     t: u64,
     slots: &Slots,
     places: &Places,
-    codes: &Codes,
+    codes: &RowCodes,
     n: usize,
     given: u32,
 ) -> usize
     requires { ⌜ (n ≤ mostEvents) × (length (now rows) ≡ rowsSize) × (length (now slots) ≡ mostEvents) × Placed n (now places) × Gives n (now codes) given ⌝ }
     requires { ⌜ from + length (momentRows t n (idsOf (slotsAt (now slots) (now places))) (now codes)) ≤ mostRows ⌝ }
-    ensures { λ r. ⌜ Written (now (rows .entry)) from (now (rows .exit)) r (momentRows t n (idsOf (slotsAt (now (slots .entry)) (now (places .entry)))) (now (codes .entry))) ⌝ }
+    ensures { λ r. ⌜ Written (now (rows .entry)) from (now (rows .exit)) r
+        (momentRows t n (idsOf (slotsAt (now (slots .entry)) (now (places .entry)))) (now (codes .entry))) ⌝ }
 {
     let a = rows_if(rows, from, t, slots, places, codes, n, 3, given);
     let b = rows_if(rows, a, t, slots, places, codes, n, 7, given);

@@ -1,14 +1,14 @@
 // Events delivered and cancelled: the place of an id among the slots, the tests in checking order, and the event stored there.
 ghost use mathlib.Core.Path.{_≡_};
-ghost use mathlib.Core.List.{[], _∷_, _++_, map};
-ghost use Prim.Native.Nat.{_+_, _≤_, _<_};
-ghost use lib.ListN.{length, take, drop};
-ghost use Rattle.rules.specs.Records.{mostEvents, lastClock, idNumber, idOf};
+ghost use mathlib.Core.List.{[], map};
+ghost use Prim.Native.Nat.{_≤_};
+ghost use lib.ListN.{take};
+ghost use Rattle.rules.specs.Records.{lastClock, idNumber, idOf};
 ghost use Rattle.rules.specs.Refusals.{late, firstOf};
 ghost use Rattle.rules.specs.Calls.{call, deliver, cancel, checks};
-ghost use Rattle.calls.specs.Slots.{entryOf, stateOf, scheduleOf, Ready};
+ghost use Rattle.calls.specs.Slots.{entryOf, slotState, scheduleOf, InUse, Ready};
 ghost use Rattle.calls.specs.Answered.{Acts};
-ghost use Rattle.calls.specs.Found.{Placed, Found};
+ghost use Rattle.calls.specs.Found.{PlaceOf, Found, FoundIn, CanOpen, widened};
 use crate::Acted;
 use crate::held;
 use crate::held::Head;
@@ -29,8 +29,8 @@ struct Place {
 
 // How many of the first n slots have a smaller id.
 fn below(slots: &Slots, n: usize, id: Id) -> usize
-    requires { ⌜ (n ≤ mostEvents) × (length (now slots) ≡ mostEvents) ⌝ }
-    ensures { λ r. ⌜ Placed (map entryOf (take n (now (slots .entry)))) (idNumber id) r ⌝ }
+    requires { ⌜ InUse n (now slots) ⌝ }
+    ensures { λ r. ⌜ PlaceOf (map entryOf (take n (now (slots .entry)))) (idNumber id) r ⌝ }
 {
     let mut i = 0;
     while i < n {
@@ -45,7 +45,7 @@ fn below(slots: &Slots, n: usize, id: Id) -> usize
 // The slots in use stand by ascending id, so none but the first that is not smaller can bear it.
 fn place_of(d: Head, slots: &Slots, id: Id) -> Place
     requires { ⌜ Ready d (now slots) ⌝ }
-    ensures { λ r. ⌜ Found (stateOf d (now (slots .entry)) .entries) (idNumber id) r ⌝ }
+    ensures { λ r. ⌜ Found (slotState d (now (slots .entry)) .entries) (idNumber id) r ⌝ }
 {
     let n = d.count;
     let at = below(slots, n, id);
@@ -69,9 +69,8 @@ fn is_late(e: Event, clock: u64) -> bool
 
 // Numbers given, of a delivery in checking order, 0 for none.
 fn number(d: Head, slots: &Slots, e: Event, p: Place) -> u8
-    requires { ⌜ Ready d (now slots) ⌝ }
-    requires { ⌜ Found (stateOf d (now slots) .entries) (idOf e) p ⌝ }
-    ensures { λ r. ⌜ r ≡ firstOf (checks (stateOf d (now (slots .entry))) (deliver e)) ⌝ }
+    requires { ⌜ FoundIn d (now slots) (idOf e) p ⌝ }
+    ensures { λ r. ⌜ r ≡ firstOf (checks (slotState d (now (slots .entry))) (deliver e)) ⌝ }
 {
     if Program::LAST < e.program {
         return 3;
@@ -104,8 +103,8 @@ fn number(d: Head, slots: &Slots, e: Event, p: Place) -> u8
 
 // The slots from `at` on move up by one, and `slot` comes there.
 fn put_in(slots: &mut Slots, n: usize, at: usize, slot: Slot)
-    requires { ⌜ (at ≤ n) × (n < mostEvents) × (length (now slots) ≡ mostEvents) ⌝ }
-    ensures { λ _. ⌜ now (slots .exit) ≡ take at (now (slots .entry)) ++ (slot ∷ drop at (take n (now (slots .entry)))) ++ drop (n + 1) (now (slots .entry)) ⌝ }
+    requires { ⌜ CanOpen at n (now slots) ⌝ }
+    ensures { λ _. ⌜ now (slots .exit) ≡ widened (now (slots .entry)) n at slot ⌝ }
 {
     let mut j = n;
     while at < j {

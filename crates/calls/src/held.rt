@@ -1,14 +1,13 @@
 // The held events in slots. A slot is an event as plain numbers, so that all events can be lent in one array and changed in place: a schedule by value would be
 // copied at each step. The rest of a schedule is small and goes by value. No other file knows where in a slot a field lies.
 ghost use mathlib.Core.Path.{_≡_};
-ghost use mathlib.Core.Bool.{true, cond};
+ghost use mathlib.Core.Bool.{cond};
 ghost use mathlib.Core.List.{[]};
-ghost use Prim.Native.Nat.{_<_, _≤_};
-ghost use lib.ListN.{length, getD};
+ghost use Prim.Native.Nat.{_<_};
+ghost use lib.ListN.{getD};
 ghost use Rattle.rules.specs.Records.{mostEvents};
-ghost use Rattle.rules.specs.Sound.{sound};
 ghost use Rattle.rules.specs.Holding.{withHolding};
-ghost use Rattle.calls.specs.Slots.{entryOf, headOf, scheduleOf, Apart};
+ghost use Rattle.calls.specs.Slots.{entryOf, headOf, scheduleOf, InUse, CanTake, TakenApart};
 use rules::Entry;
 use rules::Event;
 use rules::Id;
@@ -70,7 +69,7 @@ pub(crate) type Masks = [u32; Schedule::EVENTS];
 
 pub(crate) type Places = [u8; Schedule::EVENTS];
 
-pub(crate) type Codes = [u8; Schedule::EVENTS];
+pub(crate) type RowCodes = [u8; Schedule::EVENTS];
 
 // What a schedule has besides its events.
 pub(crate) struct Head {
@@ -90,6 +89,7 @@ fn mark(cancelled: bool) -> u64
     0
 }
 
+// The numbers of an event, in the order of their places.
 pub(crate) fn slot_of(h: Entry) -> Slot
     ensures { λ r. ⌜ entryOf r ≡ h ⌝ }
 {
@@ -197,9 +197,8 @@ pub(crate) fn head_of(s: Schedule) -> Head
 
 // The events of a schedule into slots.
 pub(crate) fn take_apart(s: Schedule, slots: &mut Slots)
-    requires { ⌜ sound s ≡ true ⌝ }
-    requires { ⌜ length (now slots) ≡ mostEvents ⌝ }
-    ensures { λ _. ⌜ Apart s (now (slots .exit)) ⌝ }
+    requires { ⌜ CanTake s (now slots) ⌝ }
+    ensures { λ _. ⌜ TakenApart s (now (slots .exit)) ⌝ }
 {
     let n = s.count;
     let mut i = 0;
@@ -212,7 +211,7 @@ pub(crate) fn take_apart(s: Schedule, slots: &mut Slots)
 
 // A schedule by value again.
 pub(crate) fn put_together(d: Head, slots: &Slots) -> Schedule
-    requires { ⌜ (length (now slots) ≡ mostEvents) × (d .count ≤ mostEvents) ⌝ }
+    requires { ⌜ InUse (d .count) (now slots) ⌝ }
     ensures { λ r. ⌜ r ≡ scheduleOf d (now (slots .entry)) ⌝ }
 {
     let none = Entry::none();

@@ -1,5 +1,5 @@
-// The live events: those that can claim a control up to a reading. A clock call looks at them alone; the others, which have lost all that they held, are cancelled
-// or begin later, stay as they are and give no row.
+// The live events: those that can claim a control up to a reading. A clock call looks at them alone; the others, which have lost all that they held, are
+// cancelled or begin later, stay as they are and give no row.
 ghost use mathlib.Core.Path.{_≡_};
 ghost use Prim.Native.Nat.{_≤_};
 ghost use lib.ListN.{length};

@@ -1,13 +1,13 @@
 // Programs added, and questions: a control's holder or its default.
 ghost use mathlib.Core.Path.{_≡_};
 ghost use mathlib.Core.List.{List, [], map};
-ghost use Prim.Native.Nat.{ℕ, _<_, _≤_};
-ghost use lib.ListN.{length, take, getD};
+ghost use Prim.Native.Nat.{ℕ, _<_};
+ghost use lib.ListN.{take, getD};
 ghost use Rattle.rules.specs.Records.{mostEvents, has};
-ghost use Rattle.rules.specs.Calls.{call, addProgram, ask, numberOf, valueOf, holderIn, bestOf, bestDefault, defaultFor};
+ghost use Rattle.rules.specs.Calls.{call, addProgram, ask, valueOf, holderIn, bestOf, bestDefault, defaultFor};
 ghost use Rattle.calls.specs.Slots.{entryOf, scheduleOf, Ready, mostControls};
-ghost use Rattle.calls.specs.Answered.{told, Acts};
-ghost use Rattle.calls.specs.Best.{ranked, carrying};
+ghost use Rattle.calls.specs.Answered.{told, Tells, Acts};
+ghost use Rattle.calls.specs.Best.{ranked, carrying, CanLook};
 use crate::Acted;
 use crate::held;
 use crate::held::Head;
@@ -90,7 +90,7 @@ const PROGRAMS: u8 = Program::LAST + 1;
 // Calls, ask: the program with the best primacy whose defaults carry the control.
 fn default_of(programs: Programs, control: u32) -> Answer
     requires { ⌜ control < mostControls ⌝ }
-    ensures { λ r. ⌜ (numberOf r ≡ 0) × (valueOf r ≡ defaultFor (bestDefault control 0 programs)) ⌝ }
+    ensures { λ r. ⌜ Tells r (defaultFor (bestDefault control 0 programs)) ⌝ }
 {
     let mut best = Best {
         found: false,
@@ -119,10 +119,8 @@ fn is_holder(slots: &Slots, i: usize, control: u32) -> bool
 
 // Calls, ask: the event that holds the control, else the other answer.
 fn holder_or(slots: &Slots, n: usize, control: u32, other: Answer) -> Answer
-    requires { ⌜ control < mostControls ⌝ }
-    requires { ⌜ (n ≤ mostEvents) × (length (now slots) ≡ mostEvents) ⌝ }
-    requires { ⌜ numberOf other ≡ 0 ⌝ }
-    ensures { λ r. ⌜ (numberOf r ≡ 0) × (valueOf r ≡ holderIn control (map entryOf (take n (now (slots .entry)))) (valueOf other)) ⌝ }
+    requires { ⌜ CanLook control n (now slots) other ⌝ }
+    ensures { λ r. ⌜ Tells r (holderIn control (map entryOf (take n (now (slots .entry)))) (valueOf other)) ⌝ }
 {
     let mut i = 0;
     while i < n {

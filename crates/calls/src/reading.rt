@@ -3,12 +3,10 @@ ghost use mathlib.Core.Path.{_≡_};
 ghost use mathlib.Core.Bool.{true, _||_};
 ghost use mathlib.Core.List.{[]};
 ghost use lib.Dec.{ltb};
-ghost use lib.ListN.{length};
 ghost use Rattle.rules.specs.Records.{lastClock};
-ghost use Rattle.rules.specs.Bytes.{rowsSize};
 ghost use Rattle.rules.specs.Sound.{sound};
 ghost use Rattle.rules.specs.Calls.{call, setClock};
-ghost use Rattle.calls.specs.Slots.{scheduleOf, Ready};
+ghost use Rattle.calls.specs.Slots.{scheduleOf, Lent};
 ghost use Rattle.calls.specs.Answered.{outcomeOf};
 ghost use Rattle.calls.specs.Advanced.{Reads};
 use crate::Acted;
@@ -20,6 +18,7 @@ use crate::held::NO_ROWS;
 use crate::held::NO_SLOTS;
 use crate::held::Rows;
 use crate::held::Slots;
+use crate::refused;
 use rules::Answer;
 use rules::Schedule;
 
@@ -32,8 +31,7 @@ fn is_out_of_range(clock: u64, reading: u64) -> bool
 
 // On slots; the rows go over the front of a buffer that all rows fit, so that there is no 13.
 pub(crate) fn pass(d: Head, slots: &mut Slots, reading: u64, rows: &mut Rows) -> Acted
-    requires { ⌜ Ready d (now slots) ⌝ }
-    requires { ⌜ length (now rows) ≡ rowsSize ⌝ }
+    requires { ⌜ Lent d (now slots) (now rows) ⌝ }
     ensures { λ r. ⌜ Reads (scheduleOf d (now (slots .entry))) reading r (now (slots .exit)) (now (rows .exit)) ⌝ }
 {
     if is_out_of_range(d.clock, reading) {
@@ -56,10 +54,7 @@ pub(crate) fn set_clock(s: Schedule, reading: u64, buffer: &mut [u8]) -> Answere
     ensures { λ r. ⌜ outcomeOf r (now (buffer .exit)) [] ≡ call s (setClock reading (now (buffer .entry))) ⌝ }
 {
     if is_out_of_range(s.clock, reading) {
-        return Answered {
-            answer: Answer::Refused(12),
-            schedule: s,
-        };
+        return refused(s, 12);
     }
     let mut slots = NO_SLOTS;
     held::take_apart(s, &mut slots);
@@ -67,10 +62,7 @@ pub(crate) fn set_clock(s: Schedule, reading: u64, buffer: &mut [u8]) -> Answere
     let passed = advance::advance(held::head_of(s), &mut slots, reading, &mut rows);
     let n = passed.rows;
     if buffer.len() < rules::ROW_SIZE * n {
-        return Answered {
-            answer: Answer::Refused(13),
-            schedule: s,
-        };
+        return refused(s, 13);
     }
     octets::copy(buffer, &rows, rules::ROW_SIZE * n);
     let head = passed.head;

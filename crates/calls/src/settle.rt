@@ -56,7 +56,8 @@ fn primacy_at(programs: Programs, slots: &Slots, i: usize) -> u8
 
 // Whether the event in slot i is better than the one in j.
 fn is_ahead(programs: Programs, slots: &Slots, i: usize, j: usize) -> bool
-    requires { ⌜ (i < mostEvents) × (j < mostEvents) × (length (now slots) ≡ mostEvents) × (entryOf (getD (now slots) i []) .event .program < mostPrograms) × (entryOf (getD (now slots) j []) .event .program < mostPrograms) ⌝ }
+    requires { ⌜ (i < mostEvents) × (j < mostEvents) × (length (now slots) ≡ mostEvents)
+        × (entryOf (getD (now slots) i []) .event .program < mostPrograms) × (entryOf (getD (now slots) j []) .event .program < mostPrograms) ⌝ }
     ensures { λ r. ⌜ r ≡ betterAt (primaciesOf programs (now (slots .entry))) (createdOf (now (slots .entry))) (idsOf (now (slots .entry))) i j ⌝ }
 {
     is_better(
@@ -86,7 +87,12 @@ fn decide(masks: &mut Masks, programs: Programs, slots: &Slots, places: &Places,
     requires { ⌜ (length (now slots) ≡ mostEvents) × Placed n (now places) ⌝ }
     requires { ⌜ Pairwise _<_ (take n (idsOf (slotsAt (now slots) (now places)))) ⌝ }
     requires { ⌜ Numbered n (slotsAt (now slots) (now places)) ⌝ }
-    ensures { λ _. ⌜ Decided (rankAt (primaciesOf programs (slotsAt (now (slots .entry)) (now (places .entry)))) (createdOf (slotsAt (now (slots .entry)) (now (places .entry)))) (idsOf (slotsAt (now (slots .entry)) (now (places .entry))))) n c (now (masks .entry)) (now (masks .exit)) ⌝ }
+    ensures { λ _. ⌜ Decided
+        (rankAt
+        (primaciesOf programs (slotsAt (now (slots .entry)) (now (places .entry))))
+        (createdOf (slotsAt (now (slots .entry)) (now (places .entry))))
+        (idsOf (slotsAt (now (slots .entry)) (now (places .entry)))))
+        n c (now (masks .entry)) (now (masks .exit)) ⌝ }
 {
     let mut best = n;
     let mut i = 0;
@@ -120,7 +126,11 @@ pub(crate) fn settle(
     requires { ⌜ (length (now slots) ≡ mostEvents) × Placed n (now places) ⌝ }
     requires { ⌜ Pairwise _<_ (take n (idsOf (slotsAt (now slots) (now places)))) ⌝ }
     requires { ⌜ Numbered n (slotsAt (now slots) (now places)) ⌝ }
-    ensures { λ _. ⌜ (length (now (masks .exit)) ≡ mostEvents) × (take n (now (masks .exit)) ≡ settled (claimants (take n (now (masks .entry))) (take n (primaciesOf programs (slotsAt (now (slots .entry)) (now (places .entry))))) (take n (createdOf (slotsAt (now (slots .entry)) (now (places .entry))))) (take n (idsOf (slotsAt (now (slots .entry)) (now (places .entry))))))) ⌝ }
+    ensures { λ _. ⌜ (length (now (masks .exit)) ≡ mostEvents) × (take n (now (masks .exit)) ≡ settled (claimants
+        (take n (now (masks .entry)))
+        (take n (primaciesOf programs (slotsAt (now (slots .entry)) (now (places .entry)))))
+        (take n (createdOf (slotsAt (now (slots .entry)) (now (places .entry)))))
+        (take n (idsOf (slotsAt (now (slots .entry)) (now (places .entry))))))) ⌝ }
 {
     let mut rest = shared;
     while rest != 0 {

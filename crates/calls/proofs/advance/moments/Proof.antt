@@ -27,13 +27,13 @@ abbrev μ-loop : tie.MeasureT-loop
 columns-of-requires : tie.Need-columns-of-requires Inv-loop μ-loop
 columns-of-requires c κs =
     let pre = c .before .before .before .before .before .pre in
-    (pre .0 .2 .count, pre .0 .0, pre .0 .1, refl, refl, refl, pre .1 .3)
+    (pre .0 .2 .used .few, pre .0 .0, pre .0 .1, refl, refl, refl, pre .1 .3)
 
 add-limit : tie.Need-add-limit Inv-loop μ-loop
 add-limit c = record { fits = omega (arith, c .before .before .before .before .before .before .pre .1 .1) }
 
 next-moment-requires : tie.Need-next-moment-requires Inv-loop μ-loop
-next-moment-requires c κs = c .before .before .before .before .before .before .before .before .pre .0 .2 .count
+next-moment-requires c κs = c .before .before .before .before .before .before .before .before .pre .0 .2 .used .few
 
 loop-holds : tie.Need-loop-holds Inv-loop μ-loop
 loop-holds c =

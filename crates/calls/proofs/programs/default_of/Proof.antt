@@ -35,14 +35,14 @@ returns c =
     let l = c .before .before .loop in
     let a = c .before .before .before .args in
     let z : l .i ≡ 0 = omega arith in
-    (refl, default-found (a .control) (a .t1) (l .best) (rw z at (l .inv .3)) (c .if1 .taken))
+    record { number = refl; value = default-found (a .control) (a .t1) (l .best) (rw z at (l .inv .3)) (c .if1 .taken) }
 
 returns-2 : tie.Need-returns-2 Inv-loop μ-loop
 returns-2 c =
     let l = c .before .before .loop in
     let a = c .before .before .before .args in
     let z : l .i ≡ 0 = omega arith in
-    (refl, default-not (a .control) (a .t1) (l .best) (rw z at (l .inv .3)) (c .if1 .left))
+    record { number = refl; value = default-not (a .control) (a .t1) (l .best) (rw z at (l .inv .3)) (c .if1 .left) }
 
 pub default-of-spec : {M : Type 1} → statement M
 default-of-spec =

@@ -15,10 +15,10 @@ use Rattle.calls.specs.Columns.{primaciesOf, createdOf, idsOf}
 use Rattle.calls.specs.Settled.{rankAt}
 use Rattle.calls.proofs.Columned.{ids-long}
 use Rattle.calls.proofs.AtPlaces.{as-many, slot-there, better-there}
-use Rattle.calls.proofs.Deciding.{Best, none, skip, first, ahead, behind, decided, ascending}
+use Rattle.calls.proofs.Deciding.{BestSoFar, none, skip, first, ahead, behind, decided, ascending}
 
 abbrev Inv-loop : tie.InvT-loop
-Inv-loop masks₀ programs slots places n c best₀ i₀ masks best i = Best (rankAt (primaciesOf programs (slotsAt slots places)) (createdOf (slotsAt slots places)) (idsOf (slotsAt slots places))) n c masks₀ masks best i
+Inv-loop masks₀ programs slots places n c best₀ i₀ masks best i = BestSoFar (rankAt (primaciesOf programs (slotsAt slots places)) (createdOf (slotsAt slots places)) (idsOf (slotsAt slots places))) n c masks₀ masks best i
 
 abbrev μ-loop : tie.MeasureT-loop
 μ-loop masks₀ programs slots places n c best₀ i₀ masks best i = n - i
