@@ -16,7 +16,7 @@ pub(crate) fn frame_as(kind: u16, b: &[u8]) -> Line
     match kind {
         1 => Line::Good(Frame::Event(octets::get_event(b, 1))),
         2 => Line::Good(Frame::Cancel(octets::get_id(b, 1))),
-        3 => Line::Good(Frame::Clock(octets::get8(b, 1))),
+        3 => Line::Good(Frame::Clock(octets::get(b, 1, 8))),
         4 => {
             let defaults = octets::get(b, 3, 4) as u32;
             Line::Good(Frame::Program(b[1], b[2], defaults))

@@ -70,18 +70,6 @@ pub fn put(b: &mut [u8], at: usize, n: usize, x: u64)
 }
 
 // The same of 8 bytes, without a loop.
-pub fn get8(b: &[u8], at: usize) -> u64
-    ensures { λ r. ⌜ r ≡ getAt 8 at (now (b .entry)) ⌝ }
-{
-    if b.len() < 8 {
-        return 0;
-    }
-    if b.len() - 8 < at {
-        return 0;
-    }
-    numbers::u64_at(b, at)
-}
-
 pub fn put8(b: &mut [u8], at: usize, x: u64)
     ensures { λ _. ⌜ now (b .exit) ≡ putAt 8 at x (now (b .entry)) ⌝ }
 {
@@ -98,7 +86,7 @@ pub fn put8(b: &mut [u8], at: usize, x: u64)
 pub fn get_id(b: &[u8], at: usize) -> Id
     ensures { λ r. ⌜ r ≡ idFrom (getAt idSize at (now (b .entry))) ⌝ }
 {
-    Id::of(get8(b, at))
+    Id::of(get(b, at, Id::SIZE))
 }
 
 // Writes the bytes of an id from `at` on; leaves the slice alone if there is no room for them all.

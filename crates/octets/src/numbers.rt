@@ -6,7 +6,7 @@ ghost use Rattle.rules.specs.Lists.{overAt};
 ghost use Rattle.rules.specs.Bytes.{big, read};
 ghost use Rattle.octets.specs.Octets.{fourBytes};
 
-// Numbers of one, two, four and eight bytes, the most significant first.
+// Numbers of one, two and four bytes, the most significant first.
 pub(crate) fn u8_at(b: &[u8], at: usize) -> u8
     requires { ⌜ at + 1 ≤ length (now b) ⌝ }
     ensures { λ r. ⌜ r ≡ read 1 at (now (b .entry)) ⌝ }
@@ -26,13 +26,6 @@ pub(crate) fn u32_at(b: &[u8], at: usize) -> u32
     ensures { λ r. ⌜ r ≡ read 4 at (now (b .entry)) ⌝ }
 {
     u16_at(b, at) as u32 * 0x1_0000 + u16_at(b, at + 2) as u32
-}
-
-pub(crate) fn u64_at(b: &[u8], at: usize) -> u64
-    requires { ⌜ at + 8 ≤ length (now b) ⌝ }
-    ensures { λ r. ⌜ r ≡ read 8 at (now (b .entry)) ⌝ }
-{
-    u32_at(b, at) as u64 * 0x1_0000_0000 + u32_at(b, at + 4) as u64
 }
 
 // The eight bytes of a number, the last one first.

@@ -6,7 +6,7 @@ use Rattle.octets.proofs.get_id.Statement.{statement}
 use Rattle.octets.proofs.get_id.Tie as tie
 
 returns : tie.Need-returns
-returns c = c .of .ensures ∙ ap idFrom (c .before .get8 .ensures)
+returns c = c .of .ensures ∙ ap idFrom (c .before .get .ensures)
 
 pub get-id-spec : {M : Type 1} → statement M
 get-id-spec = tie.close (tie.spec (λ c κs. search needs) (λ c κs. search needs) returns)

@@ -25,11 +25,11 @@ returns-2 c =
 returns-3 : tie.Need-returns-3
 unfolding frameAs
 returns-3 c =
-    let time = c .get8 .ensures ∙ get-inside _ _ _ (omega arith) (omega arith) in
+    let time = c .get .ensures ∙ get-inside _ _ _ (omega arith) (omega arith) in
     rw (c .before .match .keys3, time)
 
 cast-defaults : tie.Need-cast-defaults
-cast-defaults c = record { fits = get-fits _ (λ i. c .before .before .shared-slice-known .given i .fits) 4 3 (omega arith) (omega arith) (c .get .ensures) }
+cast-defaults c = record { fits = get-fits _ (λ i. c .before .before .shared-slice-known .given i .fits) 4 3 (omega arith) (omega arith) (c .get2 .ensures) }
 
 returns-4 : tie.Need-returns-4
 unfolding frameAs
@@ -37,7 +37,7 @@ returns-4 c =
     let defaults = c .before .before in
     let kind = defaults .before in
     let b = kind .before .before .args .b .now in
-    rw (kind .match .keys4, defaults .get .ensures, get-inside 4 3 b (omega arith) (omega arith), read-one 1 b, read-one 2 b)
+    rw (kind .match .keys4, defaults .get2 .ensures, get-inside 4 3 b (omega arith) (omega arith), read-one 1 b, read-one 2 b)
 
 returns-5 : tie.Need-returns-5
 unfolding frameAs
