@@ -1,7 +1,7 @@
 // Bytes in a slice: numbers, the most significant byte first, ids, events, and copies. Each function takes every place and every width.
 ghost use mathlib.Core.Path.{_≡_};
-ghost use Rattle.rules.specs.Records.{idSize, idNumber, idFrom};
-ghost use Rattle.octets.specs.Octets.{getAt, putAt, getEvent, putEvent, copied};
+ghost use Rattle.rules.specs.Records.{idSize, idNumber};
+ghost use Rattle.octets.specs.Octets.{getAt, putAt, getId, getEvent, putEvent, copied};
 
 mod numbers;
 
@@ -84,7 +84,7 @@ pub fn put8(b: &mut [u8], at: usize, x: u64)
 
 // The id whose bytes stand at `at`; id 0 if they are not all there.
 pub fn get_id(b: &[u8], at: usize) -> Id
-    ensures { λ r. ⌜ r ≡ idFrom (getAt idSize at (now (b .entry))) ⌝ }
+    ensures { λ r. ⌜ r ≡ getId at (now (b .entry)) ⌝ }
 {
     Id::of(get(b, at, Id::SIZE))
 }

@@ -3,7 +3,7 @@ use mathlib.Core.Path.{sym, _∙_}
 use native.Mathlib.Omega.{arith}
 use borrow.Author.Needs.{needs}
 use Rattle.rules.specs.Bytes.{eventAt}
-use Rattle.octets.proofs.Fits.{get-inside, event-inside, event-outside}
+use Rattle.octets.proofs.Fits.{id-inside, event-inside, event-outside}
 use Rattle.octets.proofs.get_event.Statement.{statement}
 use Rattle.octets.proofs.get_event.Tie as tie
 
@@ -23,7 +23,7 @@ returns-3 c =
     rw (
       event-inside (a .at) (a .b .now) (omega arith),
       id .get-id .ensures,
-      get-inside 8 (a .at) (a .b .now) (omega arith) (omega arith),
+      id-inside (a .at) (a .b .now) (omega arith),
       program .u8-at .ensures,
       fours .before .before .before .u32-at .ensures,
       fours .before .before .u32-at2 .ensures,

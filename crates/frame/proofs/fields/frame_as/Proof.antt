@@ -1,10 +1,9 @@
 -- Kind by kind, its fields, which are all there.
-use mathlib.Core.Path.{ap, _∙_}
+use mathlib.Core.Path.{_∙_}
 use native.Mathlib.Omega.{arith}
 use borrow.Author.Needs.{needs}
 use borrow.Author.Tests.{ne-eqb}
-use Rattle.rules.specs.Records.{idFrom}
-use Rattle.octets.proofs.Fits.{get-inside, get-fits, event-inside}
+use Rattle.octets.proofs.Fits.{get-inside, get-fits, id-inside, event-inside}
 use Rattle.frame.specs.Decoded.{frameAs}
 use Rattle.frame.proofs.Fronts.{read-one}
 use Rattle.frame.proofs.fields.frame_as.Statement.{statement}
@@ -19,7 +18,7 @@ returns c =
 returns-2 : tie.Need-returns-2
 unfolding frameAs
 returns-2 c =
-    let id = c .get-id .ensures ∙ ap idFrom (get-inside _ _ _ (omega arith) (omega arith)) in
+    let id = c .get-id .ensures ∙ id-inside _ _ (omega arith) in
     rw (c .before .match .keys2, id)
 
 returns-3 : tie.Need-returns-3
