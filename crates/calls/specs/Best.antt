@@ -6,10 +6,10 @@ use mathlib.Core.List.{List}
 use mathlib.Core.Option.{Option, none, some}
 use Rattle.rules.specs.declared.Answer.{Answer}
 use Rattle.rules.specs.declared.Program.{Program}
-use Rattle.rules.specs.Records.{has}
+use Rattle.rules.specs.Records.{has, mostControls}
 use Rattle.rules.specs.Calls.{Ranked, numberOf}
 use Rattle.calls.specs.declared.programs.Best.{Best}
-use Rattle.calls.specs.Slots.{mostControls, InUse}
+use Rattle.calls.specs.Slots.{InUse}
 
 -- a program's number and primacy, if there is one
 abbrev pub ranked : Best → Option Ranked

@@ -7,14 +7,10 @@ use lib.Dec.{eqb}
 use lib.ListN.{length, take, getD}
 use Rattle.rules.specs.declared.Entry.{Entry}
 use Rattle.rules.specs.declared.Schedule.{Schedule}
-use Rattle.rules.specs.Records.{State, mostEvents, lastControl, eventOf, pad}
+use Rattle.rules.specs.Records.{State, mostEvents, eventOf, pad}
 use Rattle.rules.specs.Bytes.{rowsSize}
 use Rattle.rules.specs.Sound.{sound}
 use Rattle.calls.specs.declared.held.Head.{Head}
-
--- Records, controls: how many there are
-abbrev pub mostControls : ℕ
-mostControls = lastControl + 1
 
 -- the places of the numbers in a slot: the fields of an event in their order, then effective start, held mask and the mark of a cancelled one
 abbrev pub idPlace : ℕ

@@ -3,9 +3,8 @@
 ghost use mathlib.Core.Path.{_≡_};
 ghost use Prim.Native.Nat.{_+_, _≤_, _<_, min};
 ghost use lib.ListN.{length};
-ghost use Rattle.rules.specs.Records.{mostEvents, mostRows, idNumber};
+ghost use Rattle.rules.specs.Records.{mostEvents, mostRows, idNumber, mostControls};
 ghost use Rattle.rules.specs.Bytes.{big, rowsSize};
-ghost use Rattle.calls.specs.Slots.{mostControls};
 ghost use Rattle.calls.specs.Columns.{idsOf, claimOf, codeOf, MomentColumns, Claims, Codes, Gives, nearest, nextOf};
 ghost use Rattle.calls.specs.Columns.{rowIf, codedRows, momentRows, Put, Written};
 ghost use Rattle.calls.specs.Live.{slotsAt, Placed};
@@ -19,6 +18,7 @@ use crate::held::Slots;
 use crate::held::Times;
 use crate::settle;
 use rules::Id;
+use rules::times;
 
 // What a moment looks at of each of the events at the first n places: effective start and end, the controls that it carries, held mask.
 pub(crate) fn columns_of(
@@ -104,16 +104,6 @@ fn nearer(clock: u64, x: u64, best: u64) -> u64
     best
 }
 
-// The sooner of two moments.
-fn sooner(a: u64, b: u64) -> u64
-    ensures { λ r. ⌜ r ≡ min a b ⌝ }
-{
-    if b < a {
-        return b;
-    }
-    a
-}
-
 // The next moment after the clock at which an event begins or ends, `limit` if there is none before it.
 fn own_next(clock: u64, limit: u64, begins: u64, end: u64) -> u64
     ensures { λ r. ⌜ r ≡ nearest clock begins (nearest clock end limit) ⌝ }
@@ -129,7 +119,7 @@ pub(crate) fn next_moment(clock: u64, limit: u64, begins: &Times, ends: &Times, 
     let mut next = limit;
     let mut i = 0;
     while i < n {
-        next = sooner(next, own_next(clock, limit, begins[i], ends[i]));
+        next = times::earlier(next, own_next(clock, limit, begins[i], ends[i]));
         i += 1;
     }
     next
@@ -165,7 +155,7 @@ pub(crate) fn claims_at(
         claims[i] = m;
         shared |= seen & m;
         seen |= m;
-        next = sooner(next, own_next(t, limit, begins[i], ends[i]));
+        next = times::earlier(next, own_next(t, limit, begins[i], ends[i]));
         i += 1;
     }
     Claimed { shared, next }

@@ -10,7 +10,7 @@ use Rattle.rules.specs.declared.Entry.{Entry}
 use Rattle.rules.specs.declared.Program.{Program}
 use Rattle.rules.specs.declared.Schedule.{Schedule}
 use Rattle.rules.specs.Lists.{overAt}
-use Rattle.rules.specs.Records.{mostEvents, mostPrograms, lastProgram, lastControl, mostRows, idSize, idLimit, noProgram, noEntry, eventOf}
+use Rattle.rules.specs.Records.{mostEvents, mostPrograms, lastProgram, mostControls, lastControl, mostRows, idSize, idLimit, noProgram, noEntry, eventOf}
 use Rattle.rules.specs.Rows.{Row}
 use Rattle.rules.specs.Bytes.{rowSize, rowsSize, rowBytes, eventSize, entrySize, markAt}
 use Rattle.rules.specs.Sound.{sound}
@@ -274,7 +274,7 @@ bytesHold =
 -- the sizes beside the numbers that document 01 gives for them
 unfoldable pub sizesHold : Bool
 sizesHold =
-    same (mostEvents ∷ mostPrograms ∷ lastProgram ∷ lastControl ∷ mostRows ∷ []) (48 ∷ 8 ∷ 7 ∷ 31 ∷ 96 ∷ [])
+    same (mostEvents ∷ mostPrograms ∷ lastProgram ∷ mostControls ∷ lastControl ∷ mostRows ∷ []) (48 ∷ 8 ∷ 7 ∷ 32 ∷ 31 ∷ 96 ∷ [])
     && same (idSize ∷ idLimit ∷ rowSize ∷ rowsSize ∷ []) (8 ∷ 0x10000000000000000 ∷ 17 ∷ 1632 ∷ [])
     && same (eventSize ∷ entrySize ∷ markAt ∷ []) (33 ∷ 46 ∷ 45 ∷ [])
     && same (programSize ∷ programsAt ∷ entriesAt ∷ imageSize ∷ []) (6 ∷ 9 ∷ 57 ∷ 2265 ∷ [])

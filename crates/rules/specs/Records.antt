@@ -28,9 +28,12 @@ mostPrograms = 8
 abbrev pub lastProgram : ℕ
 lastProgram = mostPrograms - 1
 
--- Records, controls: the greatest number
+-- Records, controls: how many a mask has, and the greatest number
+abbrev pub mostControls : ℕ
+mostControls = 32
+
 abbrev pub lastControl : ℕ
-lastControl = 31
+lastControl = mostControls - 1
 
 -- Response rows: no clock call gives more, since an event gives at most two in its life
 abbrev pub mostRows : ℕ

@@ -23,7 +23,7 @@ ghost use Rattle.rules.specs.ScheduleTable.{ScheduleTables, historiesHol
 ghost use Rattle.rules.specs.MomentTable.{momentsHold, momentTable};
 
 mod ids;
-mod times;
+pub mod times;
 
 // Response rows. How many bytes a row has, how many rows a clock call gives at the most, and the bytes of them all.
 pub const ROW_SIZE: usize = 8 + Id::SIZE + 1;

@@ -52,7 +52,8 @@ pub(crate) fn later(a: u64, b: u64) -> u64
     a
 }
 
-pub(crate) fn earlier(a: u64, b: u64) -> u64
+// The earlier of two times.
+pub fn earlier(a: u64, b: u64) -> u64
     ensures { λ r. ⌜ r ≡ min a b ⌝ }
 {
     if a < b {

@@ -41,8 +41,8 @@ loop-again c =
       },
       covers-more (l .claims) (l .i) m h (l .seen) (v .3),
       contested-more (l .claims) (l .i) m h (l .seen) (l .shared) (v .3) (v .4),
-      c .sooner .ensures ∙ ap (min (l .next)) (c .before .own-next .ensures) ∙ next-more (a .t) (a .limit) (l .next) (l .i) (a .begins .now) (a .ends .now) (v .5) (v .6),
-      omega (arith, c .sooner .ensures, v .6),
+      c .earlier .ensures ∙ ap (min (l .next)) (c .before .own-next .ensures) ∙ next-more (a .t) (a .limit) (l .next) (l .i) (a .begins .now) (a .ends .now) (v .5) (v .6),
+      omega (arith, c .earlier .ensures, v .6),
     )
 
 returns : tie.Need-returns Inv-loop μ-loop

@@ -9,8 +9,7 @@ use borrow.Author.Count.{below-none}
 use lib.Dec.{eqb, ltb}
 use lib.ListN.{length, getD, length-set}
 use lib.Pow.{shl-exact}
-use Rattle.rules.specs.Records.{mostEvents}
-use Rattle.calls.specs.Slots.{mostControls}
+use Rattle.rules.specs.Records.{mostEvents, mostControls}
 use Rattle.calls.specs.Columns.{codeOf, Codes, Gives}
 use Rattle.calls.proofs.Fill.{fill-more}
 use Rattle.calls.proofs.Controls.{gives-more}

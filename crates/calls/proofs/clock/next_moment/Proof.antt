@@ -25,8 +25,8 @@ loop-again c =
     let a = c .before .before .before .before .before .before .args in (
       omega arith,
       l .inv .1,
-      c .sooner .ensures ∙ ap (min (l .next)) (c .before .own-next .ensures) ∙ next-more (a .clock) (a .limit) (l .next) (l .i) (a .begins .now) (a .ends .now) (l .inv .2) (l .inv .3),
-      omega (arith, c .sooner .ensures, l .inv .3),
+      c .earlier .ensures ∙ ap (min (l .next)) (c .before .own-next .ensures) ∙ next-more (a .clock) (a .limit) (l .next) (l .i) (a .begins .now) (a .ends .now) (l .inv .2) (l .inv .3),
+      omega (arith, c .earlier .ensures, l .inv .3),
     )
 
 returns : tie.Need-returns Inv-loop μ-loop

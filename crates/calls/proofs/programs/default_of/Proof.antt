@@ -5,9 +5,8 @@ use mathlib.Core.Bool.{false}
 use native.Mathlib.Omega.{arith}
 use borrow.Author.Needs.{needs}
 use lib.ListN.{length, drop}
-use Rattle.rules.specs.Records.{mostPrograms}
+use Rattle.rules.specs.Records.{mostPrograms, mostControls}
 use Rattle.rules.specs.Calls.{bestDefault}
-use Rattle.calls.specs.Slots.{mostControls}
 use Rattle.calls.specs.Best.{ranked}
 use Rattle.calls.proofs.Asking.{default-next, default-none, default-found, default-not}
 use Rattle.calls.proofs.programs.default_of.Statement.{statement}

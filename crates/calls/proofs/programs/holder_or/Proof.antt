@@ -5,9 +5,9 @@ use mathlib.Core.List.{map}
 use native.Mathlib.Omega.{arith}
 use borrow.Author.Needs.{needs}
 use lib.ListN.{take, drop}
-use Rattle.rules.specs.Records.{idNumber}
+use Rattle.rules.specs.Records.{idNumber, mostControls}
 use Rattle.rules.specs.Calls.{valueOf, holder, holderIn}
-use Rattle.calls.specs.Slots.{entryOf, mostControls, InUse}
+use Rattle.calls.specs.Slots.{entryOf, InUse}
 use Rattle.calls.proofs.Asking.{held-here, not-here, none-holds}
 use Rattle.calls.proofs.programs.holder_or.Statement.{statement}
 use Rattle.calls.proofs.programs.holder_or.Tie as tie
