@@ -21,7 +21,7 @@ use Rattle.image.specs.Exchange.{noImage, readOf, writtenTo}
 use Rattle.calls.specs.declared.Answered.{Answered}
 use Rattle.calls.specs.Answered.{outcomeOf}
 use Rattle.calls.proofs.Said.{call-counted}
-use Rattle.hadulmir.specs.Outcomes.{faceOf, returnedFor, finished}
+use Rattle.hadulmir.specs.Outcomes.{faceOf, MayStore, returnedFor, finished}
 
 -- an operation on bytes that are no image, or one that breaks a rule
 pub unimaged : (l : List ℕ) → imaged l ≡ false → (op : Operation) (lent : List ℕ) {r : ℕ} → r ≡ negative 2 → faceOf r l lent ≡ face l op lent
@@ -108,8 +108,8 @@ module _ {l : List ℕ} {b : Loaded} (f : Formed l b) where
 
   -- what storing an outcome asks for
   pub small : (a : Answered) {bytes : List ℕ} {records : List Record} (c : Call) → outcomeOf a bytes records ≡ call (b .schedule) c
-      → (counted (valueOf (a .answer)) ≤ 96) × (length l ≡ imageSize)
-  small a c q = (rw (ap (λ (o : Outcome). counted (o .value)) q) (call-counted (b .schedule) c), f .size)
+      → MayStore (a .answer) l
+  small a c q = record { few = rw (ap (λ (o : Outcome). counted (o .value)) q) (call-counted (b .schedule) c); size = f .size }
 
 -- What is written: the image if the length is right.
 pub written-as : (s : Schedule) (l : List ℕ) {t : Bool} {m : List ℕ} → (t, m) ≡ writtenTo s l → (t ≡ eqb (length l) imageSize) × (m ≡ cond t (image s) l)
@@ -140,7 +140,7 @@ stored {l} {b} f op lent a {after} {records} q told kept whole p =
 
 -- An operation that is lent nothing, from what the read found: its call asks no more of the store, and the store leaves what the face shows.
 module _ (l : List ℕ) {b : Loaded} (e : b ≡ readOf l) (f : not (b .formed) ≡ false) (a : Answered) where
-  pub may-store : (c : Call) → outcomeOf a [] [] ≡ call (b .schedule) c → (counted (valueOf (a .answer)) ≤ 96) × (length l ≡ imageSize)
+  pub may-store : (c : Call) → outcomeOf a [] [] ≡ call (b .schedule) c → MayStore (a .answer) l
   may-store = small (formed-as l e f) a
 
   pub stored-alone : (c : Bare) → outcomeOf a [] [] ≡ call (b .schedule) (bare c) → isQuestion (bare c) ≡ false

@@ -19,8 +19,8 @@ use Rattle.rules.specs.declared.Schedule.{Schedule}
 use Rattle.rules.specs.Lists.{over}
 use Rattle.rules.specs.Records.{idSize, idNumber, noEntry, view}
 use Rattle.rules.specs.Sound.{whole, sound}
-use Rattle.rules.specs.Bytes.{big, flat, entryBytes}
-use Rattle.rules.specs.Image.{image}
+use Rattle.rules.specs.Bytes.{big, flat, entrySize, entryBytes}
+use Rattle.rules.specs.Image.{entriesAt, image}
 use Rattle.rules.specs.Calls.{ask, Outcome, count, holder, numberOf, valueOf, recordOf, does, refusal, accepts, accepted, refused, call}
 use Rattle.rules.specs.Face.{Operation, asks, lists, asCall, answerBytes, idTooLong, shown, negative, lentAfter, face}
 use Rattle.rules.proofs.Answer.{the-type}
@@ -118,31 +118,31 @@ unfolding flat
 flat-records [] = refl
 flat-records (h ∷ hs) = ap (_++_ (entryBytes h)) (flat-records hs)
 
--- the held events stand in an image from byte 57 on
-held-bytes : (s : Schedule) → sound s ≡ true → take (46 * s .count) (drop 57 (image s)) ≡ flat entryBytes (view s .entries)
+-- the held events stand in an image behind clock, count and programs
+held-bytes : (s : Schedule) → sound s ≡ true → take (entrySize * s .count) (drop entriesAt (image s)) ≡ flat entryBytes (view s .entries)
 unfolding sound
 held-bytes s e =
     let hs = view s .entries in
     let rest = drop (s .count) (s .entries) in
-    let size = flat-length entryBytes 46 entry-size hs ∙ ap (_*_ 46) (length-take-le (s .count) (s .entries) (omega (arith, rules s e .full, rules s e .count))) in
+    let size = flat-length entryBytes entrySize entry-size hs ∙ ap (_*_ entrySize) (length-take-le (s .count) (s .entries) (omega (arith, rules s e .full, rules s e .count))) in
     let all = ap (flat entryBytes) (sym (take-append-drop (s .count) (s .entries))) ∙ flat-append entryBytes hs rest in
-    ap (take (46 * s .count)) (at-entries s (each-true (whole s) _ e .0) ∙ append-nil (flat entryBytes (s .entries)) ∙ all)
-    ∙ take-at (flat entryBytes hs) (flat entryBytes rest) (46 * s .count) size
+    ap (take (entrySize * s .count)) (at-entries s (each-true (whole s) _ e .0) ∙ append-nil (flat entryBytes (s .entries)) ∙ all)
+    ∙ take-at (flat entryBytes hs) (flat entryBytes rest) (entrySize * s .count) size
 
 module _ {l : List ℕ} {b : Loaded} (f : Formed l b) (lent : List ℕ) (e : sound (b .schedule) ≡ true) where
-  pub listed-short : length lent / 46 < b .schedule .count → {r : ℕ} → r ≡ negative 13 → faceOf r l lent ≡ face l lists lent
+  pub listed-short : length lent / entrySize < b .schedule .count → {r : ℕ} → r ≡ negative 13 → faceOf r l lent ≡ face l lists lent
   listed-short h p =
       ap (λ (r : ℕ). faceOf r l lent) p
-      ∙ sym (face-is f lists lent (lists-short (b .schedule) e (length lent / 46) h .leaves _ (length-replicate (length lent / 46) (recordOf noEntry))) (none-fits lent))
+      ∙ sym (face-is f lists lent (lists-short (b .schedule) e (length lent / entrySize) h .leaves _ (length-replicate (length lent / entrySize) (recordOf noEntry))) (none-fits lent))
 
-  pub listed-all : Bytes l → b .schedule .count ≤ length lent / 46 → {m : List ℕ} → m ≡ over (take (46 * b .schedule .count) (drop 57 l)) lent
+  pub listed-all : Bytes l → b .schedule .count ≤ length lent / entrySize → {m : List ℕ} → m ≡ over (take (entrySize * b .schedule .count) (drop entriesAt l)) lent
       → faceOf (b .schedule .count) l m ≡ face l lists lent
   listed-all bytes h p =
       let s = b .schedule in
-      let k = length lent / 46 in
+      let k = length lent / entrySize in
       let old = replicate k (recordOf noEntry) in
       let q = lists-all s e k h .leaves old (length-replicate k (recordOf noEntry)) in
       let front : (r : List Record) → take (s .count) (over (held s) r) ≡ held s = λ r. take-at (held s) (drop (length (held s)) r) (s .count) (held-count s e) in
       let written = ap (λ (r : List Record). flat (λ (r : Record). entryBytes (r .entry)) (take (s .count) (over r old))) (front noRecords) ∙ ap (flat (λ (r : Record). entryBytes (r .entry))) (front old) ∙ flat-records (view s .entries) in
-      let copied = ap (λ (i : List ℕ). take (46 * s .count) (drop 57 i)) (sym (is-image f bytes)) ∙ held-bytes s e in
+      let copied = ap (λ (i : List ℕ). take (entrySize * s .count) (drop entriesAt i)) (sym (is-image f bytes)) ∙ held-bytes s e in
       ap (faceOf (s .count) l) (p ∙ ap (λ (x : List ℕ). over x lent) (copied ∙ sym written)) ∙ sym (shows f bytes lists lent q refl refl (none-fits lent))

@@ -1,2 +1,3 @@
 -- What belongs to no one function.
+-- the records of the held events
 pub mod Recorded
