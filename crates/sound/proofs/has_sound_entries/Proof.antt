@@ -4,7 +4,8 @@ use Prim.Native.Nat.{_≤_}
 use native.Mathlib.Omega.{arith}
 use borrow.Author.Needs.{needs}
 use lib.ListN.{take, drop}
-use Rattle.rules.specs.Records.{idNumber, join, noEntry, programAt}
+use Rattle.rules.specs.Records.{idNumber, join, programAt}
+use Rattle.rules.proofs.IdLaws.{number-id}
 use Rattle.rules.proofs.Lengths.{Lengths, lengths}
 use Rattle.sound.proofs.Backward.{Passed, start, turn}
 use Rattle.sound.proofs.has_sound_entries.Statement.{statement}
@@ -20,7 +21,7 @@ abbrev μ-loop : tie.MeasureT-loop
 loop-holds : tie.Need-loop-holds Inv-loop μ-loop
 loop-holds c =
     let s = c .before .args .t1 in
-    (omega arith, lengths s _ (c .before .good .0), rw (c .of .ensures) (start (s .programs) (s .clock) (s .count) (s .entries)))
+    (omega arith, lengths s _ (c .before .good .0), rw (c .of .ensures, number-id 0 (omega arith)) (start (s .programs) (s .clock) (s .count) (s .entries)))
 
 loop-again : tie.Need-loop-again Inv-loop μ-loop
 unfolding join
@@ -33,7 +34,7 @@ loop-again c =
     let s = head .before .before .args .t1 in (
       omega arith,
       l .inv .1,
-      turn (s .programs) (s .clock) (s .count) (l .i) (s .entries) noEntry (omega arith) (omega arith) (omega arith)
+      turn (s .programs) (s .clock) (s .count) (l .i) (s .entries) _ (omega arith) (omega arith) (omega arith)
           (own .is-sound-entry .ensures (s .programs) (λ small. ap (programAt (s .programs)) (sym (place .place .ensures .is small))))
           (next .is-before .ensures)
           (l .inv .2),
