@@ -37,9 +37,9 @@ laid-all d w u =
     ap (λ n. record { clock = d .clock; count = n; programs = d .programs; entries = map entryOf (take (d .count) w) ++ replicate (mostEvents - n) noEntry }) (sym (in-slots w (d .count) (omega arith)))
 
 -- one event of a schedule more in its slot
-pub slot-more : (hs : List Entry) (w : List (List ℕ)) (i : ℕ) (x : List ℕ) → i < length w → i < length hs → entryOf x ≡ getD hs i noEntry
+pub slot-more : (hs : List Entry) (w : List (List ℕ)) (i : ℕ) (x : List ℕ) (d : Entry) → i < length w → i < length hs → entryOf x ≡ getD hs i d
     → map entryOf (take i w) ≡ take i hs → map entryOf (take (i + 1) (set w i x)) ≡ take (i + 1) hs
-slot-more hs w i x l h e q = rw (add-one, take-suc-set w i x l, map-append, take-suc hs i noEntry h, q, e)
+slot-more hs w i x d l h e q = rw (add-one, take-suc-set w i x l, map-append, take-suc hs i d h, q, e)
 
 -- slots that have the events of a sound schedule are that schedule
 pub apart-of : (s : Schedule) → sound s ≡ true → (w : List (List ℕ)) → length w ≡ mostEvents → map entryOf (take (s .count) w) ≡ view s .entries → TakenApart s w

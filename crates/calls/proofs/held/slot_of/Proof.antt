@@ -1,11 +1,12 @@
 -- Each number fits the width of its field, so cutting it to that width changes nothing, and the mark is 1 only if the event is cancelled.
-use mathlib.Core.Path.{_≡_}
+use mathlib.Core.Path.{_≡_, ap, _∙_}
 use Prim.Native.Nat.{ℕ, _%_}
 use mathlib.Core.Bool.{Bool, true, false, cond}
 use native.Mathlib.Omega.{arith}
 use borrow.Author.Needs.{needs}
 use lib.Dec.{eqb}
 use Rattle.rules.specs.Records.{idFrom}
+use Rattle.rules.proofs.IdLaws.{id-number}
 use Rattle.rules.proofs.Ranges.{entry-fits}
 use Rattle.calls.specs.Slots.{values8, values16, values32, entryOf}
 use Rattle.calls.proofs.held.slot_of.Statement.{statement}
@@ -23,6 +24,7 @@ returns c =
     let h = start .args .h in
     let e = h .event in
     let f = entry-fits h _ (start .good .0) in
+    let id = ap idFrom (number .number .ensures) ∙ id-number (e .id) in
     let program : e .program % values8 ≡ e .program = omega (arith, f .event .program) in
     let controls : e .controls % values32 ≡ e .controls = omega (arith, f .event .controls) in
     let created : e .created % values32 ≡ e .created = omega (arith, f .event .created) in
@@ -35,7 +37,7 @@ returns c =
     let held : h .held % values32 ≡ h .held = omega (arith, f .held) in
     λ i. record {
       event = record {
-        id = idFrom (number .number .ensures i);
+        id = id i;
         program = program i;
         controls = controls i;
         created = created i;

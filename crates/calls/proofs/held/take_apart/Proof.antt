@@ -26,7 +26,7 @@ loop-again c =
     let l = c .before .before .before .loop in
     let s = c .before .before .before .before .args .t1 in
     let used : InUse (c .before .before .before .before .args .t1 .count) (set (l .slots) (l .i) (c .slot-of .result)) = record { few = l .inv .1 .few; size = length-set (l .slots) (l .i) (c .slot-of .result) ∙ l .inv .1 .size } in
-    (omega arith, used, l .inv .2, slot-more (s .entries) (l .slots) (l .i) (c .slot-of .result) (omega arith) (omega arith) (c .slot-of .ensures) (l .inv .3))
+    (omega arith, used, l .inv .2, slot-more (s .entries) (l .slots) (l .i) (c .slot-of .result) _ (omega arith) (omega arith) (c .slot-of .ensures) (l .inv .3))
 
 returns : tie.Need-returns Inv-loop μ-loop
 returns c =
