@@ -7,14 +7,17 @@ use native.Mathlib.Nat.{mod-eq-of-lt}
 use native.Mathlib.Numerals.{add-one}
 use native.Mathlib.Omega.{arith}
 use borrow.Author.Tests.{eq-eqb, ne-eqb}
-use lib.ListN.{length, take, getD, set, length-set, length-append}
-use lib.Seq.{take-suc-set}
-use Rattle.rules.specs.Records.{has, mostRows}
+use lib.ListN.{length, take, drop, getD, set, length-set, length-append}
+use lib.Seq.{take-suc-set, take-at, length-take-le}
+use Rattle.rules.specs.Records.{has, idSize, mostRows}
 use Rattle.rules.specs.Rows.{Row}
 use Rattle.rules.specs.Bytes.{big, flat, rowBytes, bytes, rowSize}
 use Rattle.rules.proofs.Numbers.{big-length}
+use Rattle.rules.proofs.Over.{over-size}
 use Rattle.rules.proofs.RowBytes.{bytes-append}
 use Rattle.rules.proofs.Tests.{both}
+use Rattle.octets.specs.Octets.{putAt}
+use Rattle.octets.proofs.Fits.{put-inside}
 use Rattle.calls.specs.Columns.{Gives, rowIf, codedRows, Put, Written}
 
 module _ {l : List ℕ} {at : ℕ} where
@@ -32,6 +35,18 @@ module _ {l : List ℕ} {at : ℕ} where
         size = length-set m i (x % 256) ∙ p .size;
         front = rw (s, take-suc-set m i (x % 256) (omega (arith, p .size)), f) (append-assoc (take at l) (big n (x / 256)) (x % 256 ∷ []));
       }
+
+  -- a number, written at once
+  pub number-put : (n x : ℕ) → at + n ≤ length l → {m : List ℕ} → m ≡ putAt n at x l → Put l at (big n x) m
+  number-put n x h e =
+      let k = big-length n x in
+      let fits : at + length (big n x) ≤ length l = omega arith in
+      rw (e, put-inside n at l x h)
+      (record {
+        size = over-size at (big n x) l fits;
+        front = rw (← append-assoc (take at l) (big n x) (drop (length (big n x)) (drop at l)))
+            (take-at (take at l ++ big n x) (drop (length (big n x)) (drop at l)) (at + length (big n x)) (length-append (take at l) (big n x) ∙ ap (λ m. m + length (big n x)) (length-take-le at l (omega arith))));
+      })
 
   -- bytes and then bytes
   pub then : {vs ws m n : List ℕ} {i : ℕ} → Put l at vs m → i ≡ at + length vs → Put m i ws n → Put l at (vs ++ ws) n
@@ -64,13 +79,14 @@ rows-then {l} {m} {n} {at} {i} {j} {rs} {qs} p q = record {
 }
 
 -- the three parts of a row
-pub row-put : {l m n : List ℕ} (b t i k : ℕ) → k < 256 → b + rowSize ≤ length l → Put l b (big 8 t) m → Put m (b + 8) (big 8 i) n
-    → Put l b (rowBytes (record { time = t; id = i; code = k })) (set n (b + 16) k)
+pub row-put : {l m n : List ℕ} (b t i k : ℕ) → k < 256 → b + rowSize ≤ length l → Put l b (big 8 t) m → Put m (b + 8) (big idSize i) n
+    → Put l b (rowBytes (record { time = t; id = i; code = k })) (set n (b + (8 + idSize)) k)
 unfolding rowBytes big
 row-put {l} {m} {n} b t i k s h p q =
-    let last : Put n (b + 16) (big 1 k) (set n (b + 16) k) =
-    subst (λ v. Put n (b + 16) (big 1 k) (set n (b + 16) v)) (mod-eq-of-lt s) (more 0 k (b + 16) (omega arith) (omega (arith, p .size, q .size)) none) in
-    then p (omega (arith, big-length 8 t)) (then q (omega (arith, big-length 8 i)) last)
+    let end = b + (8 + idSize) in
+    let last : Put n end (big 1 k) (set n end k) =
+    subst (λ v. Put n end (big 1 k) (set n end v)) (mod-eq-of-lt s) (more 0 k end (omega arith) (omega (arith, p .size, q .size)) none) in
+    then p (omega (arith, big-length 8 t)) (then q (omega (arith, big-length idSize i)) last)
 
 pub row-size : (t i k : ℕ) → length (rowBytes (record { time = t; id = i; code = k })) ≡ rowSize
 unfolding rowBytes

@@ -1,12 +1,12 @@
 // A moment, over columns of plain numbers: what the events at the first n places have. Nothing is dropped on the way: an event that has ended claims nothing
 // and gives no row, so it is enough to drop it after the last moment. None of these events is cancelled.
 ghost use mathlib.Core.Path.{_≡_};
-ghost use Prim.Native.Nat.{_+_, _≤_, _<_, min};
+ghost use Prim.Native.Nat.{_+_, _≤_, _<_};
 ghost use lib.ListN.{length};
 ghost use Rattle.rules.specs.Records.{mostEvents, mostRows, idNumber, mostControls};
-ghost use Rattle.rules.specs.Bytes.{big, rowsSize};
+ghost use Rattle.rules.specs.Bytes.{rowsSize};
 ghost use Rattle.calls.specs.Columns.{idsOf, claimOf, codeOf, MomentColumns, Claims, Codes, Gives, nearest, nextOf};
-ghost use Rattle.calls.specs.Columns.{rowIf, codedRows, momentRows, Put, Written};
+ghost use Rattle.calls.specs.Columns.{rowIf, codedRows, momentRows, Written};
 ghost use Rattle.calls.specs.Live.{slotsAt, Placed};
 ghost use Rattle.calls.specs.Settled.{Contested};
 use crate::held;
@@ -186,33 +186,10 @@ pub(crate) fn codes_at(
     given
 }
 
-// How many values a byte has.
-const BYTE: u64 = 0x100;
-
-// The eight bytes of a number, most significant first, from `at` on.
-pub(crate) fn put8(rows: &mut Rows, at: usize, x: u64)
-    requires { ⌜ (at + 8 ≤ rowsSize) × (length (now rows) ≡ rowsSize) ⌝ }
-    ensures { λ _. ⌜ Put (now (rows .entry)) at (big 8 x) (now (rows .exit)) ⌝ }
-{
-    let x1 = x / BYTE;
-    let x2 = x1 / BYTE;
-    let x3 = x2 / BYTE;
-    let x4 = x3 / BYTE;
-    let x5 = x4 / BYTE;
-    let x6 = x5 / BYTE;
-    let x7 = x6 / BYTE;
-    rows[at] = (x7 % BYTE) as u8;
-    rows[at + 1] = (x6 % BYTE) as u8;
-    rows[at + 2] = (x5 % BYTE) as u8;
-    rows[at + 3] = (x4 % BYTE) as u8;
-    rows[at + 4] = (x3 % BYTE) as u8;
-    rows[at + 5] = (x2 % BYTE) as u8;
-    rows[at + 6] = (x1 % BYTE) as u8;
-    rows[at + 7] = (x % BYTE) as u8;
-}
-
 // The place of the code in a row.
-const CODE_AT: usize = rules::ROW_SIZE - 1;
+const ID_AT: usize = 8;
+
+const CODE_AT: usize = ID_AT + Id::SIZE;
 
 // A row behind the first `at`, if the code is k.
 pub(crate) fn add_row(rows: &mut Rows, at: usize, t: u64, id: Id, code: u8, k: u8) -> usize
@@ -222,8 +199,8 @@ pub(crate) fn add_row(rows: &mut Rows, at: usize, t: u64, id: Id, code: u8, k: u
 {
     if code == k {
         let b = at * rules::ROW_SIZE;
-        put8(rows, b, t);
-        put8(rows, b + 8, id.number());
+        octets::put8(rows, b, t);
+        octets::put_id(rows, b + ID_AT, id);
         rows[b + CODE_AT] = k;
         return at + 1;
     }
