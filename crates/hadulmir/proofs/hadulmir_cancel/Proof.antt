@@ -1,7 +1,9 @@
 -- Loaded, cancelled, stored.
 use mathlib.Core.Path.{refl}
 use mathlib.Core.List.{[]}
+use native.Mathlib.Omega.{arith}
 use borrow.Author.Needs.{needs}
+use Rattle.rules.proofs.IdLaws.{number-id}
 use Rattle.hadulmir.proofs.Facing.{unread, may-store, stored-alone}
 use Rattle.hadulmir.proofs.hadulmir_cancel.Statement.{statement}
 use Rattle.hadulmir.proofs.hadulmir_cancel.Tie as tie
@@ -19,7 +21,10 @@ returns-2 : tie.Need-returns-2
 returns-2 c =
     let d = c .before .before .before .before in
     let formed = d .before .before .before in
-    stored-alone _ (formed .before .before .read .ensures) (formed .if1 .left) (d .cancel .result) _ (rw (d .before .of .ensures) at (d .cancel .ensures)) refl
+    let loaded = formed .before .before in
+    let start = loaded .before .before .before in
+    let id = number-id (start .args .id) (omega (arith, start)) in
+    stored-alone _ (loaded .read .ensures) (formed .if1 .left) (d .cancel .result) _ (rw (d .before .of .ensures, id) at (d .cancel .ensures)) refl
     (c .before .before .finish .ensures)
 
 pub hadulmir-cancel-spec : {M : Type 1} → statement M
