@@ -35,7 +35,7 @@ pub const ROWS_SIZE: usize = MOST_ROWS * ROW_SIZE;
 // Records. An id: the host's handle of an event. Definitions read it as one number (`idNumber`). Code outside this crate can't look inside: ids.rt has what
 // can be done with one, crates/octets its bytes, crates/text its digits.
 pub struct Id {
-    pub value: u64,
+    value: u64,
 }
 
 // Records. A program in its place, which is its number.
