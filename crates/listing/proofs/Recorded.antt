@@ -14,7 +14,7 @@ use Rattle.rules.specs.Lists.{over}
 use Rattle.rules.specs.Records.{noEntry, view}
 use Rattle.rules.specs.Sound.{sound}
 use Rattle.rules.specs.Refusals.{listChecks}
-use Rattle.rules.specs.Calls.{Outcome, recordOf, list, count, does, checks, call}
+use Rattle.rules.specs.Calls.{Outcome, recordOf, list, count, does, checks}
 use Rattle.rules.proofs.SoundState.{rules, pad-view, in-count}
 use Rattle.rules.proofs.CallLaws.{done}
 use Rattle.listing.specs.Listed.{noRecords, Lists}
