@@ -5,7 +5,7 @@ use mathlib.Core.List.{_++_}
 use native.Mathlib.Omega.{arith}
 use borrow.Author.Needs.{needs}
 use lib.ListN.{length, take, drop, getD, set, length-set}
-use Rattle.rules.specs.Records.{noEntry}
+use Rattle.rules.specs.Records.{mostEvents, noEntry}
 use Rattle.rules.specs.Calls.{recordOf}
 use Rattle.rules.proofs.SoundState.{rules}
 use Rattle.listing.specs.Listed.{noRecords}
@@ -14,7 +14,7 @@ use Rattle.listing.proofs.records.records_of.Statement.{statement}
 use Rattle.listing.proofs.records.records_of.Tie as tie
 
 abbrev Inv-loop : tie.InvT-loop
-Inv-loop s n records₀ i₀ records i = (i ≤ n) × (n ≤ 48) × (length (s .entries) ≡ 48) × (length records ≡ 48) × (records ≡ take i (held s) ++ drop i noRecords)
+Inv-loop s n records₀ i₀ records i = (i ≤ n) × (n ≤ mostEvents) × (length (s .entries) ≡ mostEvents) × (length records ≡ mostEvents) × (records ≡ take i (held s) ++ drop i noRecords)
 
 abbrev μ-loop : tie.MeasureT-loop
 μ-loop s n records₀ i₀ records i = n - i
