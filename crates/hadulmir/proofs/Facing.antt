@@ -1,6 +1,6 @@
 -- An operation on bytes that keep an image's length and marks: the call itself looks at the rules, and its outcome is what the face shows.
 use mathlib.Core.Path.{_≡_, refl, sym, ap, _∙_}
-use Prim.Native.Nat.{ℕ, _≤_}
+use Prim.Native.Nat.{ℕ}
 use mathlib.Core.Bool.{Bool, true, false, cond, not}
 use mathlib.Core.List.{List, []}
 use borrow.Author.Tests.{eqb-true, eqb-false, not-true, not-false}
@@ -112,9 +112,13 @@ module _ {l : List ℕ} {b : Loaded} (f : Formed l b) where
   small a c q = record { few = rw (ap (λ (o : Outcome). counted (o .value)) q) (call-counted (b .schedule) c); size = f .size }
 
 -- What is written: the image if the length is right.
-pub written-as : (s : Schedule) (l : List ℕ) {t : Bool} {m : List ℕ} → (t, m) ≡ writtenTo s l → (t ≡ eqb (length l) imageSize) × (m ≡ cond t (image s) l)
+pub record WrittenAs (s : Schedule) (l : List ℕ) (t : Bool) (m : List ℕ) : Type 0 where
+  pub fits : t ≡ eqb (length l) imageSize
+  pub leaves : m ≡ cond t (image s) l
+
+pub written-as : (s : Schedule) (l : List ℕ) {t : Bool} {m : List ℕ} → (t, m) ≡ writtenTo s l → WrittenAs s l t m
 unfolding writtenTo
-written-as s l {t} {m} q = by (eqb (length l) imageSize) q
+written-as s l {t} {m} q = let p = by (eqb (length l) imageSize) q in record { fits = p .0; leaves = p .1 }
   where
     by : (u : Bool) → _≡_ {A = Bool × List ℕ} (t, m) (cond u (true, image s) (false, l)) → (t ≡ u) × (m ≡ cond t (image s) l)
     by true p = let h = ap (λ (x : Bool × List ℕ). x .0) p in (h, rw h (ap (λ (x : Bool × List ℕ). x .1) p))

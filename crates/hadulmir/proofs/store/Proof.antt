@@ -13,7 +13,7 @@ returns c =
     let sound = w .before .before in
     let a = sound .before .before .before .args in
     let p = written-as (a .s) (a .out .now) (w .write .ensures) in
-    rw (sym (sound .before .is-sound .ensures) ∙ sound .if1 .taken, sym (p .0) ∙ c .if2 .taken, p .1, c .if2 .taken)
+    rw (sym (sound .before .is-sound .ensures) ∙ sound .if1 .taken, sym (p .fits) ∙ c .if2 .taken, p .leaves, c .if2 .taken)
 
 returns-2 : tie.Need-returns-2
 unfolding storeOutcome
@@ -22,7 +22,7 @@ returns-2 c =
     let sound = w .before .before in
     let a = sound .before .before .before .args in
     let p = written-as (a .s) (a .out .now) (w .write .ensures) in
-    rw (sym (sound .before .is-sound .ensures) ∙ sound .if1 .taken, sym (p .0) ∙ c .if2 .left, p .1, c .if2 .left)
+    rw (sym (sound .before .is-sound .ensures) ∙ sound .if1 .taken, sym (p .fits) ∙ c .if2 .left, p .leaves, c .if2 .left)
 
 returns-3 : tie.Need-returns-3
 unfolding storeOutcome

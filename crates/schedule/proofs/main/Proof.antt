@@ -1,5 +1,5 @@
 -- The schedule stays sound, and what is kept of a line short.
-use mathlib.Core.Path.{_≡_, refl, sym}
+use mathlib.Core.Path.{_≡_, sym}
 use Prim.Native.Nat.{_≤_}
 use mathlib.Core.Bool.{true}
 use native.Mathlib.Omega.{arith}

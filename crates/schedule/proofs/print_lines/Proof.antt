@@ -13,7 +13,7 @@ use Rattle.rules.specs.Printed.{linesOf, tellAll}
 use Rattle.calls.specs.declared.Ran.{Ran}
 use Rattle.calls.specs.Lines.{endedOf, ranOf, runOutcome}
 use Rattle.calls.specs.Whole.{wrote, GoesOn}
-use Rattle.calls.proofs.Progress.{Went, went}
+use Rattle.calls.proofs.Progress.{went}
 use Rattle.calls.proofs.Whole.{step, ended-step}
 use Rattle.schedule.proofs.print_lines.Statement.{statement}
 use Rattle.schedule.proofs.print_lines.Tie as tie

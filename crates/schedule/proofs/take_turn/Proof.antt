@@ -1,9 +1,7 @@
 -- The lines end within what was read.
-use mathlib.Core.Path.{_≡_, sym, ap, _∙_}
-use Prim.Native.Nat.{_+_, _≤_}
-use native.Mathlib.Omega.{arith}
+use mathlib.Core.Path.{sym}
+use Prim.Native.Nat.{_+_}
 use borrow.Author.Needs.{needs}
-use lib.ListN.{length}
 use lib.Seq.{length-take-le}
 use Rattle.schedule.proofs.take_turn.Statement.{statement}
 use Rattle.schedule.proofs.take_turn.Tie as tie
