@@ -37,7 +37,7 @@ module _ (s : Schedule) (e : sound s ≡ true) (t : ℕ) where
       (ltb-false t (s .clock) (n .0), ltb-false lastClock t (n .1))
 
   module _ (q : (ltb t (s .clock) || ltb lastClock t) ≡ false) (rows : List ℕ) (next : Schedule) (n : ℕ) (w : Advanced s t rows next n) where
-    -- there are at most 96 rows
+    -- there are at most `mostRows` rows
     pub few : n ≤ mostRows
     few = omega (arith, few-rows s e t, w .rows)
 

@@ -14,7 +14,7 @@ use Rattle.rules.specs.declared.Entry.{Entry}
 use Rattle.rules.specs.declared.Record.{Record}
 use Rattle.rules.specs.declared.Schedule.{Schedule}
 use Rattle.rules.specs.Lists.{each, In, Pairwise}
-use Rattle.rules.specs.Records.{State, idOf, lastClock, programAt, view, pad}
+use Rattle.rules.specs.Records.{State, idOf, lastClock, programAt, view, pad, mostEvents}
 use Rattle.rules.specs.Moments.{advance, passed}
 use Rattle.rules.specs.Bytes.{bytes, flat, rowSize}
 use Rattle.rules.specs.Sound.{malformed, sameEvent, sound}
@@ -140,7 +140,7 @@ cancelled-again s i e z =
 
 -- Numbers 10 and 13.
 
-full : (s : Schedule) (d : Event) → sound s ≡ true → call s (deliver d) .number ≡ 10 ↔ ((length (view s .entries) ≡ 48) × Fit (view s) d)
+full : (s : Schedule) (d : Event) → sound s ≡ true → call s (deliver d) .number ≡ 10 ↔ ((length (view s .entries) ≡ mostEvents) × Fit (view s) d)
 unfolding checks
 full s d e =
     let r = ten (view s) d in (

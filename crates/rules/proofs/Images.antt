@@ -1,6 +1,6 @@
 -- A schedule and its image are inverse: the clock, the count, the programs and the entries stand one after the other, each of its own length.
 use mathlib.Core.Path.{_≡_, refl, sym, ap, _∙_}
-use Prim.Native.Nat.{ℕ, _+_, _^_, _<_, _≤_}
+use Prim.Native.Nat.{ℕ, _+_, _*_, _^_, _<_, _≤_}
 use mathlib.Core.Bool.{true, and-eq-true-iff}
 use mathlib.Core.List.{List, [], _++_, append-assoc, append-nil}
 use native.Mathlib.Omega.{arith}
@@ -56,18 +56,18 @@ pub record FitsSchedule (s : Schedule) : Type 0 where
 
 pub fresh-fits : FitsSchedule (pad fresh)
 fresh-fits = record {
-  programs = λ p m. rw (in-replicate p noProgram 8 m) (search needs);
-  entries = λ h m. rw (in-replicate h noEntry 48 m) none-fits;
+  programs = λ p m. rw (in-replicate p noProgram mostPrograms m) (search needs);
+  entries = λ h m. rw (in-replicate h noEntry mostEvents m) none-fits;
 }
 
 module _ (s : Schedule) (w : whole s ≡ true) where
-  lengths : (length (s .programs) ≡ 8) × (length (s .entries) ≡ 48)
+  lengths : (length (s .programs) ≡ mostPrograms) × (length (s .entries) ≡ mostEvents)
   unfolding whole
   lengths =
-      let t = and-eq-true-iff (eqb (length (s .programs)) 8) (eqb (length (s .entries)) 48) .0 w in
-      (eqb-true (length (s .programs)) 8 (t .0), eqb-true (length (s .entries)) 48 (t .1))
+      let t = and-eq-true-iff (eqb (length (s .programs)) mostPrograms) (eqb (length (s .entries)) mostEvents) .0 w in
+      (eqb-true (length (s .programs)) mostPrograms (t .0), eqb-true (length (s .entries)) mostEvents (t .1))
 
-  programs-length : length (flat programBytes (s .programs)) ≡ 48
+  programs-length : length (flat programBytes (s .programs)) ≡ mostPrograms * programSize
   programs-length = omega (arith, lengths .0, flat-length programBytes 6 program-size (s .programs))
 
   pub image-length : length (image s) ≡ imageSize
@@ -83,8 +83,8 @@ module _ (s : Schedule) (w : whole s ≡ true) where
 
   pub at-entries : drop entriesAt (image s) ≡ flat entryBytes (s .entries) ++ []
   at-entries =
-      sym (drop-drop 48 9 (image s)) ∙ ap (drop 48) at-programs
-      ∙ drop-at (flat programBytes (s .programs)) (flat entryBytes (s .entries)) 48 programs-length ∙ sym (append-nil (flat entryBytes (s .entries)))
+      sym (drop-drop (mostPrograms * programSize) programsAt (image s)) ∙ ap (drop (mostPrograms * programSize)) at-programs
+      ∙ drop-at (flat programBytes (s .programs)) (flat entryBytes (s .entries)) (mostPrograms * programSize) programs-length ∙ sym (append-nil (flat entryBytes (s .entries)))
 
   pub formed-image : formed (image s) ≡ true
   unfolding formed

@@ -11,7 +11,7 @@ use Rattle.rules.specs.declared.Program.{Program}
 use Rattle.rules.specs.declared.Entry.{Entry}
 use Rattle.rules.specs.declared.Schedule.{Schedule}
 use Rattle.rules.specs.Lists.{All}
-use Rattle.rules.specs.Records.{idNumber}
+use Rattle.rules.specs.Records.{mostPrograms, mostEvents, idNumber}
 use Rattle.rules.proofs.Entries.{FitsEntry}
 use Rattle.rules.proofs.Images.{FitsProgram, FitsSchedule}
 use Rattle.rules.proofs.Program as program
@@ -43,6 +43,6 @@ pub schedule-fits : (s : Schedule) (vs : List Val) → Owned schedule.the-field 
 schedule-fits s vs o =
     let arrays = o .1 .1 .1 .1 in
     record {
-      programs = array-owned program.the-field FitsProgram program-fits 8 (s .programs) _ (arrays .0);
-      entries = array-owned entry.the-field FitsEntry entry-fits 48 (s .entries) _ (arrays .1 .0);
+      programs = array-owned program.the-field FitsProgram program-fits mostPrograms (s .programs) _ (arrays .0);
+      entries = array-owned entry.the-field FitsEntry entry-fits mostEvents (s .entries) _ (arrays .1 .0);
     }

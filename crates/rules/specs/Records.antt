@@ -39,7 +39,7 @@ lastControl = mostControls - 1
 abbrev pub mostRows : ℕ
 mostRows = 2 * mostEvents
 
--- Records, id: how many bytes it has, and what each is below
+-- Records, id: how many bytes it has, and the number that every id is below
 abbrev pub idSize : ℕ
 idSize = 8
 

@@ -13,7 +13,7 @@ use lib.Seq.{length-take-le, take-append-le, take-take, drop-drop, drop-at}
 use Rattle.rules.specs.Lists.{overAt}
 use Rattle.rules.specs.Printed.{decimal}
 use Rattle.rules.proofs.Over.{over-size}
-use Rattle.text.specs.Texts.{HasDigits, lastFour, mostDigits}
+use Rattle.text.specs.Texts.{HasDigits, lastFour, numberDigits}
 use Rattle.text.proofs.Printing.{put-one, decimal-one, decimal-more}
 
 pub some-digit : (n x : ℕ) → HasDigits n x → 0 < n
@@ -59,14 +59,14 @@ same-digits (suc n) (suc m) x h k = go (ltb x 10) refl (λ g. same-digits n m (x
     go false p f = rw (p, f (digit-less n x h (ltb-false x 10 p)))
 
 -- a number below 2 ^ 64 has at most these
-pub few-digits : (n x : ℕ) → HasDigits n x → x < 18446744073709551616 → n ≤ mostDigits
-few-digits n x h k = go (ltb mostDigits n) refl
+pub few-digits : (n x : ℕ) → HasDigits n x → x < 18446744073709551616 → n ≤ numberDigits
+few-digits n x h k = go (ltb numberDigits n) refl
   where
-    go : (b : Bool) → ltb mostDigits n ≡ b → n ≤ mostDigits
+    go : (b : Bool) → ltb numberDigits n ≡ b → n ≤ numberDigits
     go true p =
-        let most : 1000000000000000000000 ≤ 10 ^ n = pow-le-pow-right {n = 10} (omega arith) {i = 21} {j = n} (ltb-true mostDigits n p) in
+        let most : 1000000000000000000000 ≤ 10 ^ n = pow-le-pow-right {n = 10} (omega arith) {i = 21} {j = n} (ltb-true numberDigits n p) in
         absurd (omega (arith, h .from))
-    go false p = ltb-false mostDigits n p
+    go false p = ltb-false numberDigits n p
 
 -- a text over what was written behind it
 over-before : (at : ℕ) (s t l : List ℕ) → at + length s ≤ length l → overAt at s (overAt (at + length s) t l) ≡ overAt at (s ++ t) l

@@ -19,7 +19,7 @@ use Rattle.rules.specs.Bytes.{read, rowSize}
 use Rattle.rules.specs.Calls.{valueOf}
 use Rattle.rules.specs.Printed.{decimal, digits, threeText, codeText, rowsText, askText}
 use Rattle.rules.proofs.Over.{over-then, over-none}
-use Rattle.text.specs.Texts.{Stands, mostDigits, idDigits, mostRow, ifRoom, rowText}
+use Rattle.text.specs.Texts.{Stands, numberDigits, idDigits, mostRow, ifRoom, rowText}
 
 module _ {l : List ℕ} {at : ℕ} where
   pub put-none : Stands l at [] l at
@@ -70,8 +70,8 @@ decimal-more zero x h k = absurd (h refl)
 decimal-more (suc n) x h k = let e : suc n - 1 ≡ n = omega arith in rw (le-ltb x 10 k, e)
 
 -- a number, and what follows it
-pub number-within : (x : ℕ) (w : List ℕ) {l m : List ℕ} {at r : ℕ} → Stands l at (digits x ++ w) m r → r ≤ at + (mostDigits + length w)
-number-within x w p = omega (arith, p .end, length-append (digits x) w, decimal-length mostDigits x)
+pub number-within : (x : ℕ) (w : List ℕ) {l m : List ℕ} {at r : ℕ} → Stands l at (digits x ++ w) m r → r ≤ at + (numberDigits + length w)
+number-within x w p = omega (arith, p .end, length-append (digits x) w, decimal-length numberDigits x)
 
 -- Answers that give no text.
 
@@ -98,7 +98,7 @@ unfolding read
 read-one at l = let z : at + 0 ≡ at = omega arith in rw z (omega arith)
 
 pub three-length : (t i k : ℕ) → length (threeText t i k) ≤ mostRow
-three-length t i k = simp length-append (omega (arith, decimal-length mostDigits t, decimal-length idDigits i, decimal-length mostDigits k))
+three-length t i k = simp length-append (omega (arith, decimal-length numberDigits t, decimal-length idDigits i, decimal-length numberDigits k))
 
 module _ (b : List ℕ) where
   pub rows-length : (n at : ℕ) → length (rowsText n at b) ≤ mostRow * n

@@ -25,15 +25,15 @@ abbrev pub lastFour : ℕ → List ℕ
 lastFour x = (48 + x / 1000 % 10) ∷ (48 + x / 100 % 10) ∷ (48 + x / 10 % 10) ∷ (48 + x % 10) ∷ []
 
 -- a number below 2 ^ 64 has no more decimal digits, and an id no more than these
-abbrev pub mostDigits : ℕ
-mostDigits = 20
+abbrev pub numberDigits : ℕ
+numberDigits = 20
 
 abbrev pub idDigits : ℕ
 idDigits = 20
 
 -- a number, and an id, with the byte behind it
 abbrev pub mostNumber : ℕ
-mostNumber = mostDigits + 1
+mostNumber = numberDigits + 1
 
 abbrev pub mostId : ℕ
 mostId = idDigits + 1

@@ -10,7 +10,7 @@ ghost use Rattle.rules.specs.Records.{idNumber};
 ghost use Rattle.rules.specs.Calls.{Outcome, numberOf, valueOf, counted};
 ghost use Rattle.rules.specs.Printed.{decimal, digits, space, refusedText, threeText, codeText, rowsText, askText, frameText};
 ghost use Rattle.text.specs.Texts.{HasDigits, Stands, lastFour, rowText, DigitsFit, RowsFit, LineFits};
-ghost use Rattle.text.specs.Texts.{mostDigits, mostNumber, mostId, mostRefused, mostAsk, mostRow};
+ghost use Rattle.text.specs.Texts.{numberDigits, mostNumber, mostId, mostRefused, mostAsk, mostRow};
 use rules::Answer;
 use rules::Frame;
 use rules::Id;
@@ -88,7 +88,7 @@ fn put_digits(out: &mut [u8], at: usize, n: usize, x: u64)
 
 // A number in decimal digits, no zero in front.
 fn decimal(out: &mut [u8], at: usize, x: u64) -> usize
-    requires { ⌜ at + mostDigits ≤ length (now out) ⌝ }
+    requires { ⌜ at + numberDigits ≤ length (now out) ⌝ }
     ensures { λ r. ⌜ Stands (now (out .entry)) at (digits x) (now (out .exit)) r ⌝ }
 {
     if x < 10 {

@@ -1,4 +1,4 @@
--- 12 with nothing changed, or what the moments leave; no buffer of 1632 bytes is too short for their rows.
+-- 12 with nothing changed, or what the moments leave; no buffer of `rowsSize` bytes is too short for their rows.
 use mathlib.Core.Path.{sym, _∙_}
 use borrow.Author.Needs.{needs}
 use Rattle.calls.specs.Slots.{scheduleOf}

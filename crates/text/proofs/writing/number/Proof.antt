@@ -1,7 +1,7 @@
 -- The digits and then the byte.
 use native.Mathlib.Omega.{arith}
 use borrow.Author.Needs.{needs}
-use Rattle.text.specs.Texts.{mostDigits}
+use Rattle.text.specs.Texts.{numberDigits}
 use Rattle.text.proofs.Printing.{put-one, put-then, decimal-length}
 use Rattle.text.proofs.writing.number.Statement.{statement}
 use Rattle.text.proofs.writing.number.Tie as tie
@@ -10,7 +10,7 @@ use Rattle.text.proofs.writing.number.Tie as tie
 slice-write-out : tie.Need-slice-write-out
 slice-write-out c =
     let digits = c .before .before in
-    omega (arith, decimal-length mostDigits (digits .before .before .before .args .x))
+    omega (arith, decimal-length numberDigits (digits .before .before .before .args .x))
 
 returns : tie.Need-returns
 returns c = put-then (omega arith) (c .before .before .decimal .ensures) (put-one _ (slice-write-out c))
