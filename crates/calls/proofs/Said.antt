@@ -38,15 +38,15 @@ use Rattle.text.specs.Texts.{Stands, mostText, ifRoom}
 
 module _ (a b : List ℕ) where
   -- the same numbers below a place
-  abbrev Alike : ℕ → Type 0
-  Alike m = (j : ℕ) → j < m → getD a j 0 ≡ getD b j 0
+  abbrev AlikeUpTo : ℕ → Type 0
+  AlikeUpTo m = (j : ℕ) → j < m → getD a j 0 ≡ getD b j 0
 
-  read-same : (n at : ℕ) → Alike (at + n) → read n at a ≡ read n at b
+  read-same : (n at : ℕ) → AlikeUpTo (at + n) → read n at a ≡ read n at b
   unfolding read
   read-same zero at s = refl
   read-same (suc n) at s = ap₂ (λ x y. x * 256 + y) (read-same n at (λ j l. s j (omega arith))) (s (at + n) (omega arith))
 
-  rows-same : (n at : ℕ) → Alike (at + rowSize * n) → rowsText n at a ≡ rowsText n at b
+  rows-same : (n at : ℕ) → AlikeUpTo (at + rowSize * n) → rowsText n at a ≡ rowsText n at b
   unfolding rowsText
   rows-same zero at s = refl
   rows-same (suc n) at s =

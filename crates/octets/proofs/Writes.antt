@@ -17,16 +17,16 @@ stored : (l : List ℕ) (k a : ℕ) → k < length l → drop k (set l k a) ≡ 
 stored l k a h = rw (set-split l k a h) (drop-at (take k l) (a ∷ drop (suc k) l) k (length-take-le k l (omega arith)))
 
 -- of the n bytes of x the last ones stand in the slice, and those of `rest`, i of them, are still to be written
-pub record Left (old : List ℕ) (at n x : ℕ) (new : List ℕ) (rest i : ℕ) : Type 0 where
+pub record NumberLeft (old : List ℕ) (at n x : ℕ) (new : List ℕ) (rest i : ℕ) : Type 0 where
   pub size : length new ≡ length old
   pub front : take at new ≡ take at old
   pub back : big i rest ++ drop (at + i) new ≡ big n x ++ drop (at + n) old
 
-pub left-all : (l : List ℕ) (at n x : ℕ) → Left l at n x l x n
+pub left-all : (l : List ℕ) (at n x : ℕ) → NumberLeft l at n x l x n
 left-all l at n x = record { size = refl; front = refl; back = refl }
 
 module _ {old : List ℕ} {at n x : ℕ} {new : List ℕ} {rest : ℕ} where
-  pub left-less : (i : ℕ) → 0 < i → at + i ≤ length old → Left old at n x new rest i → Left old at n x (set new (at + (i - 1)) (rest % 256)) (rest / 256) (i - 1)
+  pub left-less : (i : ℕ) → 0 < i → at + i ≤ length old → NumberLeft old at n x new rest i → NumberLeft old at n x (set new (at + (i - 1)) (rest % 256)) (rest / 256) (i - 1)
   unfolding big
   left-less zero p h l = absurd (omega arith)
   left-less (suc i) p h l =
@@ -39,7 +39,7 @@ module _ {old : List ℕ} {at n x : ℕ} {new : List ℕ} {rest : ℕ} where
         back = rw (stored new (at + i) (rest % 256) (omega (arith, l .size))) (rw (f, append-assoc) at (l .back));
       })
 
-  pub left-none : at + n ≤ length old → Left old at n x new rest 0 → new ≡ overAt at (big n x) old
+  pub left-none : at + n ≤ length old → NumberLeft old at n x new rest 0 → new ≡ overAt at (big n x) old
   unfolding big
   left-none h l =
       let z : at + 0 ≡ at = omega arith in

@@ -50,16 +50,16 @@ left-two t begins held = go (ltb t begins)
 
 module _ (t : ℕ) (h : Entry) (now : Holding) (nothing : claim (suc t) h ≡ 0 → now .held ≡ 0) where
   -- no more rows than the moment takes off what was left
-  abbrev Step : Type 0
-  Step = any (codeAt (suc t) h now) + left (suc t) (h .begins) (now .held) ≤ left t (h .begins) (h .held)
+  abbrev Fewer : Type 0
+  Fewer = any (codeAt (suc t) h now) + left (suc t) (h .begins) (now .held) ≤ left t (h .begins) (h .held)
 
-  early : suc t < h .begins → Step
+  early : suc t < h .begins → Fewer
   early l = rw (code-early (suc t) h now l, lt-ltb (suc t) (h .begins) l, lt-ltb t (h .begins) (omega arith)) (omega arith)
 
-  first : suc t ≡ h .begins → Step
+  first : suc t ≡ h .begins → Fewer
   first e = rw (le-ltb (suc t) (h .begins) (omega arith), lt-ltb t (h .begins) (omega arith)) (omega (arith, any-one (codeAt (suc t) h now), any-one (now .held)))
 
-  later : h .begins ≤ t → Step
+  later : h .begins ≤ t → Fewer
   unfolding codeAt claim
   later l = rw (le-ltb t (h .begins) l, le-ltb (suc t) (h .begins) (omega arith), other) (go (eqb (h .held) 0) (eqb (now .held) 0) refl refl)
     where
@@ -82,10 +82,10 @@ module _ (t : ℕ) (h : Entry) (now : Holding) (nothing : claim (suc t) h ≡ 0 
       go false true p q = omega (arith, any-one (cond dead 0 (cond (eqb (endOf h) (suc t)) 3 7)))
       go false false p q = rw (ne-eqb (endOf h) (suc t) (λ e. eqb-false (now .held) 0 q (ended-none e)), cond-same) (omega arith)
 
-  step : Step
+  step : Fewer
   step = go (ltb t (h .begins)) refl
     where
-      go : (b : Bool) → ltb t (h .begins) ≡ b → Step
+      go : (b : Bool) → ltb t (h .begins) ≡ b → Fewer
       go true p = ⊎-elim first early (eq-or-lt-of-le (ltb-true t (h .begins) p))
       go false p = later (ltb-false t (h .begins) p)
 

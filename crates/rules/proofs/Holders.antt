@@ -41,7 +41,7 @@ has-taken ps t h c (x ∷ xs) e = go (beats ps x h) refl (has (claim t x) c) ref
 
 module _ (ps : List Program) (t : ℕ) (hs : List Entry) (c : ℕ) where
   -- claims the control, and is better than h
-  pub record Rival (h o : Entry) : Type 0 where
+  pub record Contender (h o : Entry) : Type 0 where
     pub here : In o hs
     pub ahead : beats ps o h ≡ true
     pub claims : has (claim t o) c ≡ true
@@ -49,7 +49,7 @@ module _ (ps : List Program) (t : ℕ) (hs : List Entry) (c : ℕ) where
   -- the best of the rivals, among o and a list
   pub record Topmost (h o : Entry) (xs : List Entry) : Type 0 where
     pub it : Entry
-    pub rival : Rival h it
+    pub rival : Contender h it
     pub beyond : All (λ x. has (claim t x) c ≡ true → beats ps x it ≡ true → ⊥) xs
     pub upward : (it ≡ o) ⊎ (beats ps it o ≡ true)
 
@@ -62,7 +62,7 @@ module _ (ps : List Program) (t : ℕ) (hs : List Entry) (c : ℕ) where
   up x b o (inl e) d = rw e d
   up x b o (inr e) d = better-trans (rankOf ps (b .event)) (rankOf ps (x .event)) (rankOf ps (o .event)) e d
 
-  best : (h o : Entry) → Rival h o → (xs : List Entry) → All (λ x. In x hs) xs → Topmost h o xs
+  best : (h o : Entry) → Contender h o → (xs : List Entry) → All (λ x. In x hs) xs → Topmost h o xs
   best h o r [] i = record { it = o; rival = r; beyond = λ x m. absurd m; upward = inl refl }
   best h o r (x ∷ xs) i =
       go (beats ps x o) refl (has (claim t x) c) refl (λ q. best h x q xs (λ y m. i y (inr m))) (best h o r xs (λ y m. i y (inr m)))
@@ -81,7 +81,7 @@ module _ (ps : List Program) (t : ℕ) (hs : List Entry) (c : ℕ) where
           beyond y (inl e) = subst (λ y. has (claim t y) c ≡ true → beats ps y (w .it) ≡ true → ⊥) (sym e) (λ q d. not-over x (w .it) (w .upward) d)
           beyond y (inr m) = w .beyond y m
 
-      go : (b : Bool) → beats ps x o ≡ b → (d : Bool) → has (claim t x) c ≡ d → (Rival h x → Topmost h x xs) → Topmost h o xs → Topmost h o (x ∷ xs)
+      go : (b : Bool) → beats ps x o ≡ b → (d : Bool) → has (claim t x) c ≡ d → (Contender h x → Topmost h x xs) → Topmost h o xs → Topmost h o (x ∷ xs)
       go true p true q f w = move p (f (record { here = i x (inl refl); ahead = better-trans (rankOf ps (x .event)) (rankOf ps (o .event)) (rankOf ps (h .event)) p (r .ahead); claims = q }))
       go true p false q f w = stay w (λ b u e d. both (has (claim t x) c) e q)
       go false p d q f w = stay w (λ b u e g. both (beats ps x o) (rise b u g) p)

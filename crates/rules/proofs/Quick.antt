@@ -41,16 +41,16 @@ quickDoes s (list r) = does s (list r)
 abbrev kept : State → Call → Done
 kept s c = record { state = s; value = nothing; bytes = lentBytes c; records = lentList c }
 
-pub record Acted : Type 0 where
+pub record Made : Type 0 where
   pub number : ℕ
   pub done : Done
 
-unfoldable pub quickCall : State → Call → Acted
+unfoldable pub quickCall : State → Call → Made
 quickCall s c =
     let n = firstOf (quickChecks s c) in
     record { number = n; done = cond (eqb n 0) (quickDoes s c) (kept s c) }
 
-abbrev replied : Acted → Reply
+abbrev replied : Made → Reply
 replied a = record { number = a .number; value = a .done .value; bytes = a .done .bytes; records = a .done .records }
 
 unfoldable pub quickReplies : State → List Call → List Reply
@@ -60,7 +60,7 @@ quickReplies s (c ∷ cs) = let a = quickCall s c in replied a ∷ quickReplies 
 -- The same.
 
 -- what a call on a schedule as lists gives
-abbrev plain : State → Call → Acted
+abbrev plain : State → Call → Made
 plain s c = record { number = firstOf (checks s c); done = cond (eqb (firstOf (checks s c)) 0) (does s c) (kept s c) }
 
 quick-call : (s : State) → Sound s → (c : Call) → quickCall s c ≡ plain s c
@@ -76,7 +76,7 @@ quick-call s v (setClock t b) = go (ltb t (s .clock) || ltb lastClock t) refl
 quick-call s v (list r) = refl
 
 -- and on a schedule by value
-abbrev pub padded : Acted → Outcome
+abbrev pub padded : Made → Outcome
 padded a = record { number = a .number; value = a .done .value; state = pad (a .done .state); bytes = a .done .bytes; records = a .done .records }
 
 call-plain : (s : State) → Sound s → (c : Call) → call (pad s) c ≡ padded (plain s c)

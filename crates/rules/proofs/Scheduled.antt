@@ -191,7 +191,7 @@ written-refused s (setClock t b) = refl
 written-refused s (list r) = refl
 
 -- from a history to the next, of schedules by value
-pub record Step (H : History) (s : Schedule) (w : List ℕ) (K : History) : Type 0 where
+pub record Leads (H : History) (s : Schedule) (w : List ℕ) (K : History) : Type 0 where
   pub state : s ≡ pad (stateOf K)
   pub rows : bytes (rowsOf H) ++ w ≡ bytes (rowsOf K)
   pub inv : Inv K
@@ -201,16 +201,16 @@ module _ (H : History) (v : Inv H) (u : Sound (stateOf H)) where
   abbrev s : Schedule
   s = pad (stateOf H)
 
-  step : (a : Call) → Step H (call s a .state) (written a (call s a)) (cond (accepts s a) (note H a) H)
+  step : (a : Call) → Leads H (call s a .state) (written a (call s a)) (cond (accepts s a) (note H a) H)
   step a =
-      subst (λ o. Step H (o .state) (written a o) (cond (accepts s a) (note H a) H)) (sym (call-pad (stateOf H) u a))
-      (subst (λ n. Step H (out (eqb (firstOf (checks (stateOf H) a)) 0) .state) (written a (out (eqb (firstOf (checks (stateOf H) a)) 0))) (cond (eqb n 0) (note H a) H))
+      subst (λ o. Leads H (o .state) (written a o) (cond (accepts s a) (note H a) H)) (sym (call-pad (stateOf H) u a))
+      (subst (λ n. Leads H (out (eqb (firstOf (checks (stateOf H) a)) 0) .state) (written a (out (eqb (firstOf (checks (stateOf H) a)) 0))) (cond (eqb n 0) (note H a) H))
       (sym (refusal-pad (stateOf H) u a)) (go (eqb (firstOf (checks (stateOf H) a)) 0) refl))
     where
       out : Bool → Outcome
       out b = cond b (accepted (does (stateOf H) a)) (refused s a)
 
-      go : (b : Bool) → eqb (firstOf (checks (stateOf H) a)) 0 ≡ b → Step H (out b .state) (written a (out b)) (cond b (note H a) H)
+      go : (b : Bool) → eqb (firstOf (checks (stateOf H) a)) 0 ≡ b → Leads H (out b .state) (written a (out b)) (cond b (note H a) H)
       go true ok =
           let n = next-accepted H v a ok in
           record { state = ap pad (n .state); rows = n .rows; inv = n .inv; sound = subst Sound (n .state) (sound-does (stateOf H) u a ok) }
@@ -224,7 +224,7 @@ history-cond true H a rest = refl
 history-cond false H a rest = refl
 
 pub all-steps : (H : History) → Inv H → Sound (stateOf H) → (s : Schedule) → s ≡ pad (stateOf H) → (xs : List Call)
-    → Step H (run s xs) (joined s xs) (historyFrom H (acceptedCalls s xs))
+    → Leads H (run s xs) (joined s xs) (historyFrom H (acceptedCalls s xs))
 unfolding run joined acceptedCalls historyFrom
 all-steps H v u s e [] = record { state = e; rows = append-nil (bytes (rowsOf H)); inv = v; sound = u }
 all-steps H v u s e (a ∷ xs) =
@@ -232,8 +232,8 @@ all-steps H v u s e (a ∷ xs) =
     let s′ = pad (stateOf H) in
     let t = call s′ a .state in
     let m = all-steps (cond (accepts s′ a) (note H a) H) (n .inv) (n .sound) t (n .state) xs in
-    subst (λ s. Step H (run s (a ∷ xs)) (joined s (a ∷ xs)) (historyFrom H (acceptedCalls s (a ∷ xs)))) (sym e)
-    (subst (λ K. Step H (run t xs) (written a (call s′ a) ++ joined t xs) K) (sym (history-cond (accepts s′ a) H a (acceptedCalls t xs)))
+    subst (λ s. Leads H (run s (a ∷ xs)) (joined s (a ∷ xs)) (historyFrom H (acceptedCalls s (a ∷ xs)))) (sym e)
+    (subst (λ K. Leads H (run t xs) (written a (call s′ a) ++ joined t xs) K) (sym (history-cond (accepts s′ a) H a (acceptedCalls t xs)))
     (record {
       state = m .state;
       rows = sym (append-assoc (bytes (rowsOf H)) (written a (call s′ a)) (joined t xs)) ∙ ap (λ w. w ++ joined t xs) (n .rows) ∙ m .rows;
@@ -247,6 +247,6 @@ start = record {
   numbered = tt;
 }
 
-pub scheduled : (cs : List Call) → Step noHistory (run (pad fresh) cs) (joined (pad fresh) cs) (historyOf cs)
+pub scheduled : (cs : List Call) → Leads noHistory (run (pad fresh) cs) (joined (pad fresh) cs) (historyOf cs)
 unfolding heldEvents
 scheduled cs = all-steps noHistory start sound-fresh (pad fresh) refl cs

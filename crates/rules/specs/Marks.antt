@@ -45,7 +45,7 @@ replies s [] = []
 replies s (c ∷ cs) = let o = call s c in replyOf o ∷ replies (o .state) cs
 
 -- an answer that is fixed: the number of a refusal (0 for none) and the code
-pub record Answered : Type 0 where
+pub record FixedAnswer : Type 0 where
   pub number : ℕ
   pub code : ℕ
 
@@ -59,7 +59,7 @@ pub record Question : Type 0 where
 pub record Case : Type 0 where
   pub received : ℕ
   pub events : List Event
-  pub answers : List Answered
+  pub answers : List FixedAnswer
   pub periods : List Period
   pub rows : List Row
   pub holders : List Question
@@ -86,7 +86,7 @@ isCode (code n) k = eqb n k
 isCode (count n) k = false
 isCode (governor g) k = false
 
-abbrev pub answersHold : List Answered → List Reply → Bool
+abbrev pub answersHold : List FixedAnswer → List Reply → Bool
 answersHold [] rs = true
 answersHold (a ∷ more) [] = false
 answersHold (a ∷ more) (r ∷ rs) = eqb (r .number) (a .number) && isCode (r .value) (a .code) && answersHold more rs

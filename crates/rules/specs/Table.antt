@@ -5,7 +5,7 @@ use Rattle.rules.specs.declared.Event.{Event}
 use Rattle.rules.specs.declared.Period.{Period}
 use Rattle.rules.specs.Records.{eventOf}
 use Rattle.rules.specs.Rows.{Row}
-use Rattle.rules.specs.Marks.{minus, undrawn, Answered, Question, Case}
+use Rattle.rules.specs.Marks.{minus, undrawn, FixedAnswer, Question, Case}
 
 -- the one event: start 5000, duration 600
 abbrev one : Event
@@ -21,13 +21,13 @@ abbrev held : ℕ → ℕ → ℕ → Question
 held t c i = record { time = t; control = c; id = i }
 
 -- accepted with code 1
-abbrev new : Answered
+abbrev new : FixedAnswer
 new = record { number = 0; code = 1 }
 
-abbrev refused : ℕ → Answered
+abbrev refused : ℕ → FixedAnswer
 refused n = record { number = n; code = 0 }
 
-abbrev case : ℕ → List Event → List Answered → List Period → List Row → List Question → Case
+abbrev case : ℕ → List Event → List FixedAnswer → List Period → List Row → List Question → Case
 case r es ans ps rs hs = record { received = r; events = es; answers = ans; periods = ps; rows = rs; holders = hs }
 
 unfoldable pub table : List Case

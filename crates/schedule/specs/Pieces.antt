@@ -9,7 +9,7 @@ use Rattle.rules.specs.Sound.{sound}
 use Rattle.frame.specs.Decoded.{longestLine}
 use Rattle.text.specs.Texts.{mostText}
 use Rattle.calls.specs.Lines.{endedOf}
-use Rattle.calls.specs.Whole.{GoesOn}
+use Rattle.calls.specs.Whole.{TextGoesOn}
 use Rattle.schedule.specs.declared.Piece.{Piece}
 use Rattle.schedule.specs.declared.Rest.{Rest}
 
@@ -37,7 +37,7 @@ pub record Leaves (s : Schedule) (piece : List ℕ) (r : Piece) : Type 0 where
   pub kept-rules : sound (r .schedule) ≡ true
   pub within : r .read ≤ length piece
   pub none-left : r .written ≡ true → endedOf (drop (r .read) piece) ≡ []
-  pub goes-on : r .written ≡ true → GoesOn s piece (r .schedule) (drop (r .read) piece)
+  pub goes-on : r .written ≡ true → TextGoesOn s piece (r .schedule) (drop (r .read) piece)
 
 -- what stands between two places of a buffer
 pub record Within (from to : ℕ) (buffer : List ℕ) : Type 0 where
@@ -45,7 +45,7 @@ pub record Within (from to : ℕ) (buffer : List ℕ) : Type 0 where
   pub there : to ≤ length buffer
 
 -- the first r bytes of it, as many as can matter, stand at the front
-pub record Keeps (from to : ℕ) (old new : List ℕ) (r : ℕ) : Type 0 where
+pub record KeepsLine (from to : ℕ) (old new : List ℕ) (r : ℕ) : Type 0 where
   pub count : r ≡ min mostKept (to - from)
   pub front : take r new ≡ take r (drop from old)
 

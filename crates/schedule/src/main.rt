@@ -1,7 +1,7 @@
 // The program `schedule`: frames from standard input, one to a line, and what document 01 has printed for each on standard output. It reads and writes in
 // large pieces, and keeps no more of its input than one buffer. What is printed for the lines in it is what `calls::run` promises.
 ghost use Prim.Native.Nat.{_<_};
-ghost use Rattle.schedule.specs.Pieces.{CanPrint, CanGoOn, Leaves, Within, Keeps, Rests};
+ghost use Rattle.schedule.specs.Pieces.{CanPrint, CanGoOn, Leaves, Within, KeepsLine, Rests};
 use libc::STDIN_FILENO;
 use libc::STDOUT_FILENO;
 use rules::Schedule;
@@ -50,7 +50,7 @@ fn print_lines(mut s: Schedule, piece: &[u8], out: &mut [u8]) -> Piece
 // The line that has not ended yet goes to the front of the buffer, as much of it as can matter; how much that is.
 fn keep(buffer: &mut [u8], from: usize, to: usize) -> usize
     requires { ⌜ Within from to (now buffer) ⌝ }
-    ensures { λ r. ⌜ Keeps from to (now (buffer .entry)) (now (buffer .exit)) r ⌝ }
+    ensures { λ r. ⌜ KeepsLine from to (now (buffer .entry)) (now (buffer .exit)) r ⌝ }
 {
     let mut n = 0;
     while n < KEPT {

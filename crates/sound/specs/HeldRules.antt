@@ -10,7 +10,7 @@ use Rattle.rules.specs.Records.{mostPrograms, lastProgram}
 use Rattle.rules.specs.Sound.{ascending, soundEntry, apart}
 
 -- a place in the array of programs, which is the program's number if that is one
-pub record PlaceOf (program r : ℕ) : Type 0 where
+pub record ProgramPlace (program r : ℕ) : Type 0 where
   pub within : r < mostPrograms
   pub is : program ≤ lastProgram → r ≡ program
 

@@ -9,7 +9,7 @@ ghost use Rattle.rules.specs.declared.Program.{Program};
 ghost use Rattle.rules.specs.Lists.{each};
 ghost use Rattle.rules.specs.Records.{idNumber, idOf, cut, lastProgram, mostEvents, programAt};
 ghost use Rattle.rules.specs.Sound.{soundProgram, unused, inPeriod, lasting, carried, heldSinceStart, noneIfCancelled, soundEntry, sound};
-ghost use Rattle.sound.specs.HeldRules.{PlaceOf, heldRules};
+ghost use Rattle.sound.specs.HeldRules.{ProgramPlace, heldRules};
 use rules::Entry;
 use rules::Event;
 use rules::Id;
@@ -19,7 +19,7 @@ use rules::Schedule;
 
 // Where a program stands: at its number. A number that is refused gets a place as well, so that every index is within the array.
 fn place(program: u8) -> usize
-    ensures { λ r. ⌜ PlaceOf program r ⌝ }
+    ensures { λ r. ⌜ ProgramPlace program r ⌝ }
 {
     if program <= Program::LAST {
         return program as usize;

@@ -107,16 +107,16 @@ split-four n x h k =
     rw (a, b, d, e) at (split-then p (split-then q (split-then r s)))
 
 -- of the n digits of x the last ones stand in the buffer, and those of `rest`, i of them, are still to be written
-pub record Left (old : List ℕ) (at n x : ℕ) (new : List ℕ) (rest i : ℕ) : Type 0 where
+pub record DigitsLeft (old : List ℕ) (at n x : ℕ) (new : List ℕ) (rest i : ℕ) : Type 0 where
   pub digits : HasDigits i rest
   pub size : length new ≡ length old
   pub is : overAt at (decimal i rest) new ≡ overAt at (decimal n x) old
 
-pub left-all : {l : List ℕ} {at n x : ℕ} → HasDigits n x → Left l at n x l x n
+pub left-all : {l : List ℕ} {at n x : ℕ} → HasDigits n x → DigitsLeft l at n x l x n
 left-all h = record { digits = h; size = refl; is = refl }
 
-module _ {old : List ℕ} {at n x : ℕ} {new : List ℕ} {rest i : ℕ} (h : at + i ≤ length old) (l : Left old at n x new rest i) where
-  left-less : {last : List ℕ} {m front : ℕ} → Split i rest last m front → Left old at n x (overAt (at + m) last new) front m
+module _ {old : List ℕ} {at n x : ℕ} {new : List ℕ} {rest i : ℕ} (h : at + i ≤ length old) (l : DigitsLeft old at n x new rest i) where
+  left-less : {last : List ℕ} {m front : ℕ} → Split i rest last m front → DigitsLeft old at n x (overAt (at + m) last new) front m
   left-less {last} {m} {front} s =
       let e : at + length (decimal m front) ≡ at + m = omega (arith, has-length m front (s .digits)) in
       record {
@@ -125,10 +125,10 @@ module _ {old : List ℕ} {at n x : ℕ} {new : List ℕ} {rest i : ℕ} (h : at
         is = rw e at (over-before at (decimal m front) last new (omega (arith, s .count, l .size))) ∙ rw (s .is) at (l .is);
       }
 
-  pub left-one : 9 < rest → Left old at n x (set new (at + (i - 1)) (48 + rest % 10)) (rest / 10) (i - 1)
+  pub left-one : 9 < rest → DigitsLeft old at n x (set new (at + (i - 1)) (48 + rest % 10)) (rest / 10) (i - 1)
   left-one k =
       rw (put-one {l = new} {at = at + (i - 1)} (48 + rest % 10) (omega (arith, some-digit i rest (l .digits), l .size)) .is)
       (left-less (split-one i rest (l .digits) k))
 
-  pub left-four : 9999 < rest → Left old at n x (overAt (at + (i - 4)) (lastFour rest) new) (rest / 10000) (i - 4)
+  pub left-four : 9999 < rest → DigitsLeft old at n x (overAt (at + (i - 4)) (lastFour rest) new) (rest / 10000) (i - 4)
   left-four k = left-less (split-four i rest (l .digits) k)

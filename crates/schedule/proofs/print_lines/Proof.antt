@@ -12,7 +12,7 @@ use Rattle.rules.specs.Sound.{sound}
 use Rattle.rules.specs.Printed.{linesOf, tellAll}
 use Rattle.calls.specs.declared.Ran.{Ran}
 use Rattle.calls.specs.Lines.{endedOf, ranOf, runOutcome}
-use Rattle.calls.specs.Whole.{wrote, GoesOn}
+use Rattle.calls.specs.Whole.{wrote, TextGoesOn}
 use Rattle.calls.proofs.Progress.{went}
 use Rattle.calls.proofs.Whole.{step, ended-step}
 use Rattle.schedule.proofs.print_lines.Statement.{statement}
@@ -39,7 +39,7 @@ module _ {first : Schedule} {piece : List ℕ} {s : Schedule} {from : ℕ} (p : 
       }
 
   -- no line that has ended is left
-  printed-all : endedOf (drop from piece) ≡ [] → GoesOn first piece s (drop from piece)
+  printed-all : endedOf (drop from piece) ≡ [] → TextGoesOn first piece s (drop from piece)
   unfolding tellAll
   printed-all none after =
       let all : tellAll first (endedOf piece) ≡ p .text = p .ended ∙ rw none (append-nil (p .text)) in

@@ -7,13 +7,13 @@ use lib.ListN.{take, drop}
 use Rattle.rules.specs.Records.{idNumber, join, programAt}
 use Rattle.rules.proofs.IdLaws.{number-id}
 use Rattle.rules.proofs.Lengths.{Lengths, lengths}
-use Rattle.sound.proofs.Backward.{Passed, start, turn}
+use Rattle.sound.proofs.Backward.{EntriesPassed, start, turn}
 use Rattle.sound.proofs.has_sound_entries.Statement.{statement}
 use Rattle.sound.proofs.has_sound_entries.Tie as tie
 
 abbrev Inv-loop : tie.InvT-loop
 Inv-loop s clock ok₀ used₀ more₀ next₀ i₀ ok used more next i =
-    (i ≤ s .count) × Lengths s × Passed (s .programs) (s .clock) (drop i (take (s .count) (s .entries))) ok used more (idNumber next)
+    (i ≤ s .count) × Lengths s × EntriesPassed (s .programs) (s .clock) (drop i (take (s .count) (s .entries))) ok used more (idNumber next)
 
 abbrev μ-loop : tie.MeasureT-loop
 μ-loop s clock ok₀ used₀ more₀ next₀ i₀ ok used more next i = i

@@ -5,12 +5,12 @@ use Prim.Native.Nat.{_-_, _≤_}
 use native.Mathlib.Omega.{arith}
 use borrow.Author.Needs.{needs}
 use Rattle.rules.specs.Holding.{endOf}
-use Rattle.calls.proofs.Finishing.{Gathered, none-gathered, dropped, kept, stayed, all-gathered}
+use Rattle.calls.proofs.Finishing.{ToFront, none-gathered, dropped, kept, stayed, all-gathered}
 use Rattle.calls.proofs.finish.finish.Statement.{statement}
 use Rattle.calls.proofs.finish.finish.Tie as tie
 
 abbrev Inv-loop : tie.InvT-loop
-Inv-loop slots₀ n to k₀ i₀ slots k i = (i ≤ n) × Gathered to i slots₀ slots k
+Inv-loop slots₀ n to k₀ i₀ slots k i = (i ≤ n) × ToFront to i slots₀ slots k
 
 abbrev μ-loop : tie.MeasureT-loop
 μ-loop slots₀ n to k₀ i₀ slots k i = n - i

@@ -5,12 +5,12 @@ use native.Mathlib.Omega.{arith}
 use borrow.Author.Needs.{needs}
 use lib.ListN.{getD}
 use Rattle.frame.proofs.Worths.{worth-bound, pair-good, pair-bad}
-use Rattle.frame.proofs.Passes.{Passed, passed-none, passed-more, no-digit, passed-all}
+use Rattle.frame.proofs.Passes.{PairsPassed, passed-none, passed-more, no-digit, passed-all}
 use Rattle.frame.proofs.digits.read_pairs.Statement.{statement}
 use Rattle.frame.proofs.digits.read_pairs.Tie as tie
 
 abbrev Inv-loop : tie.InvT-loop
-Inv-loop line n bytes₀ values i₀ bytes i = (i ≤ n) × Passed line i bytes
+Inv-loop line n bytes₀ values i₀ bytes i = (i ≤ n) × PairsPassed line i bytes
 
 abbrev μ-loop : tie.MeasureT-loop
 μ-loop line n bytes₀ values i₀ bytes i = n - i

@@ -3,12 +3,12 @@ use mathlib.Core.Path.{_∙_}
 use Prim.Native.Nat.{_≤_}
 use native.Mathlib.Omega.{arith}
 use borrow.Author.Needs.{needs}
-use Rattle.text.proofs.Digits.{split-four, Left, left-all, left-four}
+use Rattle.text.proofs.Digits.{split-four, DigitsLeft, left-all, left-four}
 use Rattle.text.proofs.writing.put_digits.Statement.{statement}
 use Rattle.text.proofs.writing.put_digits.Tie as tie
 
 abbrev Inv-loop : tie.InvT-loop
-Inv-loop out₀ at n x rest₀ i₀ out rest i = (i ≤ n) × Left out₀ at n x out rest i
+Inv-loop out₀ at n x rest₀ i₀ out rest i = (i ≤ n) × DigitsLeft out₀ at n x out rest i
 
 abbrev μ-loop : tie.MeasureT-loop
 μ-loop out₀ at n x rest₀ i₀ out rest i = rest

@@ -7,12 +7,12 @@ use borrow.Author.Needs.{needs}
 use lib.ListN.{length-set}
 use Rattle.rules.specs.Printed.{decimal}
 use Rattle.text.proofs.Printing.{put-one, decimal-one}
-use Rattle.text.proofs.Digits.{some-digit, Left, left-all, left-one}
+use Rattle.text.proofs.Digits.{some-digit, DigitsLeft, left-all, left-one}
 use Rattle.text.proofs.writing.put_singly.Statement.{statement}
 use Rattle.text.proofs.writing.put_singly.Tie as tie
 
 abbrev Inv-loop : tie.InvT-loop
-Inv-loop out₀ at n x rest₀ i₀ out rest i = (i ≤ n) × Left out₀ at n x out rest i
+Inv-loop out₀ at n x rest₀ i₀ out rest i = (i ≤ n) × DigitsLeft out₀ at n x out rest i
 
 abbrev μ-loop : tie.MeasureT-loop
 μ-loop out₀ at n x rest₀ i₀ out rest i = rest
