@@ -1,5 +1,3 @@
 -- What belongs to no one function.
--- an operation shows the outcome of its call
-pub mod Facing
--- an operation that has nothing to store
-pub mod Unstored
+pub mod Facing  -- an operation shows the outcome of its call
+pub mod Unstored  -- an operation that has nothing to store

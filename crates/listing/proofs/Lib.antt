@@ -1,3 +1,2 @@
 -- What belongs to no one function.
--- the records of the held events
-pub mod Recorded
+pub mod Recorded  -- the records of the held events
