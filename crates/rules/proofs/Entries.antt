@@ -11,7 +11,7 @@ use Rattle.rules.specs.declared.Event.{Event}
 use Rattle.rules.specs.declared.Entry.{Entry}
 use Rattle.rules.specs.Records.{idSize, idLimit, idOf, noEvent, noEntry}
 use Rattle.rules.specs.Bytes.{big, read, eventAt, eventBytes, entryAt, entryBytes, flag, eventSize, entrySize, markAt}
-use Rattle.rules.proofs.IdLaws.{number-id, id-number}
+use Rattle.rules.proofs.IdLaws.{number-id, zero-id, id-number}
 use Rattle.rules.proofs.Numbers.{Bytes, read-below, read-big, read-drop, piece, Inverse}
 
 -- each field fits its width
@@ -34,7 +34,7 @@ pub record FitsEntry (h : Entry) : Type 0 where
 
 -- a place that is not in use
 pub none-fits : FitsEntry noEntry
-none-fits = let zero : idOf noEvent ≡ 0 = number-id 0 (omega arith) in search needs
+none-fits = let zero : idOf noEvent ≡ 0 = zero-id in search needs
 
 pub entry-size : (h : Entry) → length (entryBytes h) ≡ entrySize
 unfolding entryBytes eventBytes big

@@ -12,6 +12,10 @@ pub number-id : (n : ℕ) → n < idLimit → idNumber (idFrom n) ≡ n
 unfolding idNumber idFrom
 number-id n h = refl
 
+pub zero-id : idNumber (idFrom 0) ≡ 0
+unfolding idNumber idFrom
+zero-id = refl
+
 pub id-number : (i : Id) → idFrom (idNumber i) ≡ i
 unfolding idNumber idFrom
 id-number i = refl
