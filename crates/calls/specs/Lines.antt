@@ -8,31 +8,29 @@ use lib.Dec.{leb, eqb}
 use lib.ListN.{length, getD, take, drop}
 use Rattle.rules.specs.declared.Schedule.{Schedule}
 use Rattle.rules.specs.declared.Frame.{Frame}
-use Rattle.rules.specs.declared.Frame.the-variants as frame
 use Rattle.rules.specs.declared.Line.{Line}
 use Rattle.rules.specs.declared.Line.the-variants.{Good, Bad}
 use Rattle.rules.specs.Lists.{over}
 use Rattle.rules.specs.Sound.{sound}
-use Rattle.rules.specs.Calls.{Value, nothing, count, Outcome, numberOf, valueOf, call}
+use Rattle.rules.specs.Calls.{Call, bare, setClock, list, Value, nothing, count, Outcome, numberOf, valueOf, call}
 use Rattle.rules.specs.Frames.{lineOf, frameCall}
 use Rattle.rules.specs.Printed.{tell}
 use Rattle.text.specs.Texts.{mostText}
 use Rattle.calls.specs.declared.Ran as declared
 use Rattle.calls.specs.declared.lines.NextLine.{NextLine}
 
--- a lent buffer after the call of a frame: a clock reading alone writes to it
-abbrev pub bufferAfter : Frame → Outcome → List ℕ → List ℕ
-bufferAfter (frame.Event e) o b = b
-bufferAfter (frame.Cancel i) o b = b
-bufferAfter (frame.Clock t) o b = o .bytes
-bufferAfter (frame.Program n p d) o b = b
-bufferAfter (frame.Ask c) o b = b
+-- a buffer that stands ready after a call: only a call that is lent it writes to it
+abbrev pub bufferAfter : Call → Outcome → List ℕ → List ℕ
+bufferAfter (bare c) o b = b
+bufferAfter (setClock t lent) o b = o .bytes
+bufferAfter (list r) o b = b
 
 -- Frames and image, a frame: what its call gives and leaves, with the buffer that is lent for rows
 unfoldable pub frameOutcome : Schedule → Frame → List ℕ → Outcome
 frameOutcome s f b =
-    let o = call s (frameCall f b) in
-    record { number = o .number; value = o .value; state = o .state; bytes = bufferAfter f o b; records = [] }
+    let c = frameCall f b in
+    let o = call s c in
+    record { number = o .number; value = o .value; state = o .state; bytes = bufferAfter c o b; records = [] }
 
 -- Numbers given, 1: a line that is no frame is refused before anything else
 abbrev pub decodedOutcome : Schedule → Line → List ℕ → Outcome

@@ -186,7 +186,7 @@ pub(crate) fn codes_at(
     given
 }
 
-// The place of the code in a row.
+// The places of the id and of the code in a row.
 const ID_AT: usize = 8;
 
 const CODE_AT: usize = ID_AT + Id::SIZE;
