@@ -17,7 +17,7 @@ use Rattle.rules.proofs.ListLaws.{insert-length}
 use Rattle.rules.proofs.SoundKept.{call-pad, sound-does}
 use Rattle.calls.specs.declared.held.Head.{Head}
 use Rattle.calls.specs.declared.events.Place.{Place}
-use Rattle.calls.specs.Slots.{stateOf, scheduleOf, Ready}
+use Rattle.calls.specs.Slots.{slotState, scheduleOf, Ready}
 use Rattle.calls.specs.Answered.{Acts}
 use Rattle.calls.specs.Found.{Found}
 use Rattle.calls.proofs.Answers.{given}
@@ -26,29 +26,28 @@ use Rattle.calls.proofs.Slots.{count-of, view-of, sound-of}
 
 module _ {d : Head} {w : List (List ℕ)} (r : Ready d w) where
   -- a number that applies is given, and nothing changes
-  pub refuses : (c : Call) (n : ℕ) → eqb n 0 ≡ false → lentList c ≡ [] → n ≡ firstOf (checks (stateOf d w) c)
+  pub refuses : (c : Call) (n : ℕ) → eqb n 0 ≡ false → lentList c ≡ [] → n ≡ firstOf (checks (slotState d w) c)
       → Acts (record { answer = Refused n; head = d }) w (lentBytes c) (call (scheduleOf d w) c)
   refuses c n f l q = record {
-    size = r .size;
-    count = r .count;
+    used = r .used;
     outcome = ap (λ z. record { number = n; value = nothing; state = scheduleOf d w; bytes = lentBytes c; records = z }) (sym l)
         ∙ given (scheduleOf d w) (r .good) c n f (q ∙ ap (λ s. firstOf (checks s c)) (sym (view-of r)));
   }
 
   -- past every number the call is made
-  pub does-it : (c : Call) → firstOf (checks (stateOf d w) c) ≡ 0 → call (scheduleOf d w) c ≡ accepted (does (stateOf d w) c)
-  does-it c z = call-pad (stateOf d w) (sound-of r) c ∙ rw z
+  pub does-it : (c : Call) → firstOf (checks (slotState d w) c) ≡ 0 → call (scheduleOf d w) c ≡ accepted (does (slotState d w) c)
+  does-it c z = call-pad (slotState d w) (sound-of r) c ∙ rw z
 
   -- an event that is taken in finds room, since what is left is sound
-  pub room : (v : Event) → firstOf (checks (stateOf d w) (deliver v)) ≡ 0 → find (idOf v) (stateOf d w .entries) ≡ none → d .count < mostEvents
+  pub room : (v : Event) → firstOf (checks (slotState d w) (deliver v)) ≡ 0 → find (idOf v) (slotState d w .entries) ≡ none → d .count < mostEvents
   unfolding does
   room v z f =
-      let left = sound-does (stateOf d w) (sound-of r) (deliver v) (eq-eqb _ 0 z) .room in
-      omega (arith, rw f at left, insert-length entryId (entry (d .clock) v) (stateOf d w .entries), count-of r)
+      let left = sound-does (slotState d w) (sound-of r) (deliver v) (eq-eqb _ 0 z) .room in
+      omega (arith, rw f at left, insert-length entryId (entry (d .clock) v) (slotState d w .entries), count-of r)
 
   -- what is held under an id, by its place
-  pub found : {i : ℕ} {p : Place} → Found (stateOf d w .entries) i p → find i (stateOf d w .entries) ≡ cond (p .held) (some (getD (stateOf d w .entries) (p .at) noEntry)) none
-  found {i} {p} f = find-at i (stateOf d w .entries) (p .at) (p .held) (sound-of r .ids) f
+  pub found : {i : ℕ} {p : Place} → Found (slotState d w .entries) i p → find i (slotState d w .entries) ≡ cond (p .held) (some (getD (slotState d w .entries) (p .at) noEntry)) none
+  found {i} {p} f = find-at i (slotState d w .entries) (p .at) (p .held) (sound-of r .ids) f
 
-  pub inside : {i : ℕ} {p : Place} → Found (stateOf d w .entries) i p → p .held ≡ true → (p .at < d .count) × (d .count ≤ mostEvents)
-  inside f h = (omega (arith, f .held h .0, count-of r), r .count)
+  pub inside : {i : ℕ} {p : Place} → Found (slotState d w .entries) i p → p .held ≡ true → (p .at < d .count) × (d .count ≤ mostEvents)
+  inside f h = (omega (arith, f .held h .0, count-of r), r .used .few)

@@ -11,11 +11,11 @@ use Rattle.rules.specs.declared.Entry.{Entry}
 use Rattle.rules.specs.declared.Program.{Program}
 use Rattle.rules.specs.declared.Schedule.{Schedule}
 use Rattle.rules.specs.Lists.{keep, All, Pairwise}
-use Rattle.rules.specs.Records.{noEntry, lastClock, idOf, programAt, view}
+use Rattle.rules.specs.Records.{noEntry, lastClock, idOf, programAt, view, mostEvents, mostRows}
 use Rattle.rules.specs.Holding.{heldAt, withHolding, endOf}
 use Rattle.rules.specs.Rows.{Row, rowsAt}
 use Rattle.rules.specs.Moments.{lasts, advance, passed}
-use Rattle.rules.specs.Bytes.{bytes}
+use Rattle.rules.specs.Bytes.{bytes, rowsSize}
 use Rattle.rules.specs.Sound.{sound}
 use Rattle.rules.specs.Calls.{entryId}
 use Rattle.rules.proofs.ListLaws.{keep-all, asc-map}
@@ -23,8 +23,8 @@ use Rattle.rules.proofs.SoundState.{Sound, ById, sound-view, rules, in-count}
 use Rattle.rules.proofs.Bound.{few-rows}
 use Rattle.rules.proofs.Jump.{onward, Idle}
 use Rattle.calls.specs.declared.held.Head.{Head}
-use Rattle.calls.specs.Slots.{entryOf, stateOf, scheduleOf, Ready}
-use Rattle.calls.specs.Columns.{primaciesOf, createdOf, idsOf, Numbered, Running, Dated, Claims, Codes, nextOf, momentRows, Written}
+use Rattle.calls.specs.Slots.{entryOf, slotState, scheduleOf, Ready}
+use Rattle.calls.specs.Columns.{primaciesOf, createdOf, idsOf, Numbered, Uncancelled, MomentColumns, Claims, Codes, nextOf, momentRows, Written}
 use Rattle.calls.specs.Held.{Columns, columnsOf, Columned, Long}
 use Rattle.calls.specs.Settled.{claimants, settled}
 use Rattle.calls.specs.Live.{placesTo, masked}
@@ -44,7 +44,7 @@ pub record Going (s : Schedule) (to n : ℕ) (c : Columns) (old rows held : List
   pub count : n ≡ s .count
   pub columned : Columned (s .programs) (s .entries) n c
   pub long : Long c
-  pub size : length old ≡ 1632
+  pub size : length old ≡ rowsSize
   pub order : clock ≤ to
   -- the entries as they stand, and the rows so far
   pub us : List Entry
@@ -55,7 +55,7 @@ pub record Going (s : Schedule) (to n : ℕ) (c : Columns) (old rows held : List
   pub written : Written old 0 rows at done
 
 -- before the first: nothing has ended
-pub start : (s : Schedule) (to : ℕ) (c : Columns) (old held : List ℕ) → sound s ≡ true → s .clock ≤ to → to ≤ lastClock → length old ≡ 1632
+pub start : (s : Schedule) (to : ℕ) (c : Columns) (old held : List ℕ) → sound s ≡ true → s .clock ≤ to → to ≤ lastClock → length old ≡ rowsSize
     → Columned (s .programs) (s .entries) (s .count) c → Long c → ((k : ℕ) → k < s .count → getD held k 0 ≡ getD (s .entries) k noEntry .held)
     → Going s to (s .count) c old old held (s .clock) 0
 start s to c old held good h l size w long masks =
@@ -86,10 +86,10 @@ module _ {s : Schedule} {to n : ℕ} {c : Columns} {old rows held : List ℕ} {c
   abbrev ps : List Program
   ps = s .programs
 
-  pub below : n ≤ 48
+  pub below : n ≤ mostEvents
   below = omega (arith, g .count, rules s (g .good) .count)
 
-  fits : (a : List ℕ) → length a ≡ 48 → n ≤ length a
+  fits : (a : List ℕ) → length a ≡ mostEvents → n ≤ length a
   fits a e = omega (arith, below)
 
   -- the ids ascend
@@ -138,7 +138,7 @@ module _ {s : Schedule} {to n : ℕ} {c : Columns} {old rows held : List ℕ} {c
           ∙ ap (onward (record { state = stateIn ps (g .us) clock; rows = g .done })) (moment-then ps (g .us) clock (t - suc clock) (g .state) in-time still t to whole h)
           ∙ ap (λ rs. record { state = rest .state; rows = rs }) (sym (append-assoc (g .done) (rowsAt ps t (g .us)) (rest .rows)))
 
-      pub room : at + length (momentRows t n (c .ids) codes) ≤ 96
+      pub room : at + length (momentRows t n (c .ids) codes) ≤ mostRows
       room =
           let rest = advance (to - t) (stateIn ps next t) in
           omega (
@@ -190,7 +190,7 @@ module _ {s : Schedule} {to n : ℕ} {c : Columns} {old rows held : List ℕ} {c
           (λ j. record { event = a .event j; begins = a .begins j; held = sym (g .now .held k (omega (arith, g .now .size))) j; cancelled = a .cancelled j })
           ∙ sym (at-map f 0 noEntry (placesTo (s .count)) k (omega (arith, size, g .now .size)) ∙ ap f (place-at (s .count) k (omega (arith, g .count, g .now .size)))))
 
-      pub stop : length held ≡ 48 → Passes s to rows at held
+      pub stop : length held ≡ mostEvents → Passes s to rows at held
       stop long = record {
         masks = long;
         state = ap (λ m. m .state) there ∙ ap (λ us. stateIn ps us to) all-masked;
@@ -209,7 +209,7 @@ module _ {d : Head} {w : List (List ℕ)} (r : Ready d w) where
   column : (f : Entry → ℕ) (k : ℕ) → k < d .count → getD (map (λ x. f (entryOf x)) w) k 0 ≡ f (getD (whole-of .entries) k noEntry)
   column f k l = at-map (λ x. f (entryOf x)) [] 0 w k (omega (arith, within r)) ∙ sym (ap f (entry-at r k l))
 
-  module _ (running : Running (d .count) w) (begins ends carried held : List ℕ) (t : Dated (d .count) w begins ends carried held) where
+  module _ (running : Uncancelled (d .count) w) (begins ends carried held : List ℕ) (t : MomentColumns (d .count) w begins ends carried held) where
     abbrev columns : Columns
     columns = columnsOf (d .programs) w begins ends carried
 
@@ -226,9 +226,9 @@ module _ {d : Head} {w : List (List ℕ)} (r : Ready d w) where
     }
 
     long-of : Long columns
-    long-of = record { primacies = primacies-long w (d .programs) ∙ r .size; created = created-long w ∙ r .size; ids = ids-long w ∙ r .size }
+    long-of = record { primacies = primacies-long w (d .programs) ∙ r .used .size; created = created-long w ∙ r .used .size; ids = ids-long w ∙ r .used .size }
 
-    pub begin : (to : ℕ) (old : List ℕ) → d .clock ≤ to → to ≤ lastClock → length old ≡ 1632 → Going whole-of to (d .count) columns old old held (d .clock) 0
+    pub begin : (to : ℕ) (old : List ℕ) → d .clock ≤ to → to ≤ lastClock → length old ≡ rowsSize → Going whole-of to (d .count) columns old old held (d .clock) 0
     begin to old h l size =
         subst (λ n. Going whole-of to n columns old old held (d .clock) 0) (count-of r)
         (start whole-of to columns old held (r .good) h l size (subst (λ n. Columned (d .programs) (whole-of .entries) n columns) (sym (count-of r)) columned) long-of
@@ -237,5 +237,5 @@ module _ {d : Head} {w : List (List ℕ)} (r : Ready d w) where
   -- the events of sound slots have programs
   pub numbered : Numbered (d .count) w
   numbered k l =
-      let it = sound-of r .entries (getD (stateOf d w .entries) k noEntry) (at-in noEntry (stateOf d w .entries) k (omega (arith, count-of r))) in
+      let it = sound-of r .entries (getD (slotState d w .entries) k noEntry) (at-in noEntry (slotState d w .entries) k (omega (arith, count-of r))) in
       omega (arith, rw (slot-at w (d .count) (within r) k l) at (it .numbered))

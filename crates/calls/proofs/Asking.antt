@@ -11,12 +11,11 @@ use borrow.Author.Tests.{le-leb, lt-leb, not-true, not-false}
 use Rattle.rules.specs.declared.Entry.{Entry}
 use Rattle.rules.specs.declared.Program.{Program}
 use Rattle.rules.specs.Records.{has, noProgram, noEntry}
-use Rattle.rules.specs.Calls.{Value, holder, default, nobody, holderIn, bestOf, bestDefault, defaultFor}
+use Rattle.rules.specs.Calls.{Value, entryId, holder, default, nobody, holderIn, bestOf, bestDefault, defaultFor}
 use Rattle.calls.specs.declared.programs.Best.{Best}
 use Rattle.calls.specs.Best.{ranked, carrying}
 use Rattle.calls.specs.Slots.{entryOf}
 use Rattle.calls.proofs.Slots.{in-slots, slot-at}
-use Rattle.calls.proofs.Placing.{id-at}
 
 -- Defaults.
 
@@ -58,9 +57,9 @@ module _ (c n : ℕ) (w : List (List ℕ)) (v : Value) (fits : n ≤ length w) w
   here i l = drop-cons (map entryOf (take n w)) i noEntry (omega (arith, in-slots w n fits)) ∙ ap (λ h. h ∷ from (suc i)) (slot-at w n fits i l)
 
   -- the first that holds it is the answer
-  pub held-here : (i : ℕ) → i < n → has (entryOf (getD w i []) .held) c ≡ true → holder (getD (getD w i []) 0 0) ≡ holderIn c (from i) v
+  pub held-here : (i : ℕ) → i < n → has (entryOf (getD w i []) .held) c ≡ true → holder (entryId (entryOf (getD w i []))) ≡ holderIn c (from i) v
   unfolding holderIn
-  held-here i l e = rw (here i l, e, id-at (getD w i []))
+  held-here i l e = rw (here i l, e)
 
   -- one that does not is passed over
   pub not-here : (i : ℕ) → i < n → has (entryOf (getD w i []) .held) c ≡ false → holderIn c (from i) v ≡ holderIn c (from (i + 1)) v

@@ -6,6 +6,7 @@ use mathlib.Core.List.{List, [], map}
 use native.Mathlib.Omega.{arith}
 use lib.ListN.{length, getD, length-map}
 use Rattle.rules.specs.declared.Program.{Program}
+use Rattle.rules.specs.Records.{mostEvents}
 use Rattle.rules.specs.Holding.{better}
 use Rattle.calls.specs.Columns.{primaciesOf, createdOf, idsOf}
 use Rattle.calls.specs.Settled.{rankAt, betterAt}
@@ -44,7 +45,7 @@ module _ (w : List (List ℕ)) (places : List ℕ) where
       rank-there ps = λ i. record { primacy = primacy-there ps i; created = created-there i; id = id-there i }
 
 -- whether one is better (t) is the same of two places and of their slots
-pub better-there : (ps : List Program) (w : List (List ℕ)) (places : List ℕ) (n : ℕ) → n ≤ 48 → length w ≡ 48 → Placed n places → (i j : ℕ) → i < n → j < n → (t : Bool)
+pub better-there : (ps : List Program) (w : List (List ℕ)) (places : List ℕ) (n : ℕ) → n ≤ mostEvents → length w ≡ mostEvents → Placed n places → (i j : ℕ) → i < n → j < n → (t : Bool)
     → t ≡ betterAt (primaciesOf ps w) (createdOf w) (idsOf w) (getD places i 0) (getD places j 0)
     → t ≡ betterAt (primaciesOf ps (slotsAt w places)) (createdOf (slotsAt w places)) (idsOf (slotsAt w places)) i j
 better-there ps w places n few long p i j k l t e = e ∙ sym (ap₂ better (rank i k) (rank j l))

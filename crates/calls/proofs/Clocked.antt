@@ -10,12 +10,13 @@ use lib.ListN.{length, take, drop}
 use lib.Seq.{take-at, length-take-le}
 use Rattle.rules.specs.declared.Schedule.{Schedule}
 use Rattle.rules.specs.Lists.{over}
-use Rattle.rules.specs.Records.{lastClock, view}
+use Rattle.rules.specs.Records.{lastClock, view, mostRows}
 use Rattle.rules.specs.Moments.{passed}
 use Rattle.rules.specs.Sound.{sound}
 use Rattle.rules.specs.Refusals.{clockChecks}
 use Rattle.rules.specs.Calls.{Outcome, setClock, nothing, count, counted, does, checks, call}
 use Rattle.rules.specs.declared.Answer.the-variants.{Refused, Count}
+use Rattle.rules.specs.Bytes.{rowSize, rowsSize}
 use Rattle.rules.proofs.Tests.{either-false}
 use Rattle.rules.proofs.Bound.{few-rows}
 use Rattle.rules.proofs.CallLaws.{done}
@@ -36,39 +37,38 @@ module _ (s : Schedule) (e : sound s ≡ true) (t : ℕ) where
       (ltb-false t (s .clock) (n .0), ltb-false lastClock t (n .1))
 
   module _ (q : (ltb t (s .clock) || ltb lastClock t) ≡ false) (rows : List ℕ) (next : Schedule) (n : ℕ) (w : Advanced s t rows next n) where
-    -- there are at most 96 rows
-    pub few : n ≤ 96
+    -- there are at most `mostRows` rows
+    pub few : n ≤ mostRows
     few = omega (arith, few-rows s e t, w .rows)
 
-    pub fits : (b : List ℕ) → 17 * n ≤ length b → record { number = 0; value = count n; state = next; bytes = over (take (17 * n) rows) b; records = [] } ≡ call s (setClock t b)
+    pub fits : (b : List ℕ) → rowSize * n ≤ length b → record { number = 0; value = count n; state = next; bytes = over (take (rowSize * n) rows) b; records = [] } ≡ call s (setClock t b)
     unfolding checks clockChecks does
     fits b h =
         (λ i. record { number = 0; value = count (w .rows i); state = w .schedule i; bytes = over (w .written i) b; records = [] })
-        ∙ sym (done s e (setClock t b) (rw (q, le-ltb (length b) (17 * length (passed (view s) t .rows)) (omega (arith, w .rows)))))
+        ∙ sym (done s e (setClock t b) (rw (q, le-ltb (length b) (rowSize * length (passed (view s) t .rows)) (omega (arith, w .rows)))))
 
-    pub too-short : (b : List ℕ) → length b < 17 * n → record { number = 13; value = nothing; state = s; bytes = b; records = [] } ≡ call s (setClock t b)
+    pub too-short : (b : List ℕ) → length b < rowSize * n → record { number = 13; value = nothing; state = s; bytes = b; records = [] } ≡ call s (setClock t b)
     unfolding checks clockChecks
-    too-short b h = given s e (setClock t b) 13 refl (rw (q, lt-ltb (length b) (17 * length (passed (view s) t .rows)) (omega (arith, w .rows))))
+    too-short b h = given s e (setClock t b) 13 refl (rw (q, lt-ltb (length b) (rowSize * length (passed (view s) t .rows)) (omega (arith, w .rows))))
 
     -- the rows at the front of a buffer that they were written over
-    pub front : (b : List ℕ) → take (17 * n) rows ≡ take (17 * n) (over (take (17 * n) rows) b)
+    pub front : (b : List ℕ) → take (rowSize * n) rows ≡ take (rowSize * n) (over (take (rowSize * n) rows) b)
     front b =
-        let f = take (17 * n) rows in
-        sym (take-at f (drop (length f) b) (17 * n) (length-take-le (17 * n) rows (omega (arith, few, w .size))))
+        let f = take (rowSize * n) rows in
+        sym (take-at f (drop (length f) b) (rowSize * n) (length-take-le (rowSize * n) rows (omega (arith, few, w .size))))
 
 -- On slots.
 
 module _ {d : Head} {w : List (List ℕ)} (r : Ready d w) (t : ℕ) (rows : List ℕ) where
   -- the bytes at the front are those of an outcome's buffer
   abbrev Front : Outcome → Type 0
-  Front o = take (17 * counted (o .value)) rows ≡ take (17 * counted (o .value)) (o .bytes)
+  Front o = take (rowSize * counted (o .value)) rows ≡ take (rowSize * counted (o .value)) (o .bytes)
 
-  pub reads-none : (ltb t (d .clock) || ltb lastClock t) ≡ true → length rows ≡ 1632 → Reads (scheduleOf d w) t (record { answer = Refused 12; head = d }) w rows
+  pub reads-none : (ltb t (d .clock) || ltb lastClock t) ≡ true → length rows ≡ rowsSize → Reads (scheduleOf d w) t (record { answer = Refused 12; head = d }) w rows
   reads-none q l =
       let out = out-of-range (scheduleOf d w) (r .good) t q in
       record {
-        size = r .size;
-        count = r .count;
+        used = r .used;
         long = l;
         number = λ b m. ap (λ (o : Outcome). o .number) (out b);
         value = λ b m. ap (λ (o : Outcome). o .value) (out b);
@@ -82,11 +82,10 @@ module _ {d : Head} {w : List (List ℕ)} (r : Ready d w) (t : ℕ) (rows : List
       let v = a .advanced in
       let s = scheduleOf d w in
       let end = scheduleOf (p .head) next in
-      let is : (b : List ℕ) → length b ≡ 1632 → record { number = 0; value = count (p .rows); state = end; bytes = over (take (17 * p .rows) rows) b; records = [] } ≡ call s (setClock t b) =
+      let is : (b : List ℕ) → length b ≡ rowsSize → record { number = 0; value = count (p .rows); state = end; bytes = over (take (rowSize * p .rows) rows) b; records = [] } ≡ call s (setClock t b) =
       λ b m. fits s (r .good) t q rows end (p .rows) v b (omega (arith, few s (r .good) t q rows end (p .rows) v)) in
       record {
-        size = a .size;
-        count = a .count;
+        used = a .used;
         long = v .size;
         number = λ b m. ap (λ (o : Outcome). o .number) (is b m);
         value = λ b m. ap (λ (o : Outcome). o .value) (is b m);

@@ -54,7 +54,7 @@ not-back x y e = go (better y x) refl
     go false p = p
 
 -- after the first i places, `best` has the control (n: nobody has), and the others have it no longer
-pub record Best (rank : ℕ → Rank) (n c : ℕ) (old new : List ℕ) (best i : ℕ) : Type 0 where
+pub record BestSoFar (rank : ℕ → Rank) (n c : ℕ) (old new : List ℕ) (best i : ℕ) : Type 0 where
   pub size : length new ≡ length old
   pub upto : i ≤ n
   pub bound : best ≤ n
@@ -63,7 +63,7 @@ pub record Best (rank : ℕ → Rank) (n c : ℕ) (old new : List ℕ) (best i :
   pub holds : best < n → (best < i) × HasAt old best c
   pub leads : (j : ℕ) → j < i → HasAt old j c → (best < n) × ((j ≡ best) ⊎ (better (rank best) (rank j) ≡ true))
 
-pub none : {rank : ℕ → Rank} {n c : ℕ} {old : List ℕ} → Best rank n c old old n 0
+pub none : {rank : ℕ → Rank} {n c : ℕ} {old : List ℕ} → BestSoFar rank n c old old n 0
 none = record {
   size = refl;
   upto = omega arith;
@@ -76,7 +76,7 @@ none = record {
 
 -- One place more.
 
-module _ {rank : ℕ → Rank} {n c : ℕ} {old new : List ℕ} {best i : ℕ} (b : Best rank n c old new best i) (l : i < n) where
+module _ {rank : ℕ → Rank} {n c : ℕ} {old new : List ℕ} {best i : ℕ} (b : BestSoFar rank n c old new best i) (l : i < n) where
   before : (best ≡ n) ⊎ (best < i)
   before = ⊎-elim (λ e. inl e) (λ k. inr (b .holds k .0)) (eq-or-lt-of-le (b .bound))
 
@@ -89,7 +89,7 @@ module _ {rank : ℕ → Rank} {n c : ℕ} {old new : List ℕ} {best i : ℕ} (
   -- place i loses: it has not the control, or is worse
   module _ (m : List ℕ) (s : length m ≡ length new) (e : getD m i 0 ≡ cut (getD old i 0) (2 ^ c))
       (f : (j : ℕ) → (j ≡ i → ⊥) → getD m j 0 ≡ getD new j 0) (w : HasAt old i c → (best < n) × (better (rank best) (rank i) ≡ true)) where
-    stays : Best rank n c old m best (i + 1)
+    stays : BestSoFar rank n c old m best (i + 1)
     stays = record {
       size = s ∙ b .size;
       upto = omega arith;
@@ -107,7 +107,7 @@ module _ {rank : ℕ → Rank} {n c : ℕ} {old new : List ℕ} {best i : ℕ} (
   -- place i leads from now on
   module _ (m : List ℕ) (s : length m ≡ length new) (e : best < n → getD m best 0 ≡ cut (getD old best 0) (2 ^ c))
       (f : (j : ℕ) → (j ≡ best → n ≤ best) → getD m j 0 ≡ getD new j 0) (h : HasAt new i c) (w : best < n → better (rank i) (rank best) ≡ true) where
-    moves : Best rank n c old m i (i + 1)
+    moves : BestSoFar rank n c old m i (i + 1)
     moves = record {
       size = s ∙ b .size;
       upto = omega arith;
@@ -130,10 +130,10 @@ module _ {rank : ℕ → Rank} {n c : ℕ} {old new : List ℕ} {best i : ℕ} (
 
   -- t: whether place i has the control
   module _ {t : Bool} (is : t ≡ has (getD new i 0) c) where
-    pub skip : t ≡ false → Best rank n c old new best (i + 1)
+    pub skip : t ≡ false → BestSoFar rank n c old new best (i + 1)
     skip e = let d : has (getD old i 0) c ≡ false = rw here at (sym is ∙ e) in stays new refl (here ∙ sym (cut-not (getD old i 0) c d)) (λ j k. refl) (λ h. both _ h d)
 
-    pub first : t ≡ true → best ≡ n → Best rank n c old new i (i + 1)
+    pub first : t ≡ true → best ≡ n → BestSoFar rank n c old new i (i + 1)
     first e q = moves new refl (λ k. absurd (omega arith)) (λ j k. refl) (sym is ∙ e) (λ k. absurd (omega arith))
 
     -- u: whether it is better
@@ -141,13 +141,13 @@ module _ {rank : ℕ → Rank} {n c : ℕ} {old new : List ℕ} {best i : ℕ} (
       found : best < n
       found = ⊎-elim (λ q. absurd (d q)) (λ q. q) (eq-or-lt-of-le (b .bound))
 
-      pub ahead : u ≡ true → Best rank n c old (set new best (cut (getD new best 0) (2 ^ c))) i (i + 1)
+      pub ahead : u ≡ true → BestSoFar rank n c old (set new best (cut (getD new best 0) (2 ^ c))) i (i + 1)
       ahead g =
           moves _ (length-set new best _)
           (λ k. getD-set-same new best _ 0 (omega (arith, has-long old best c (b .holds k .1), b .size)) ∙ ap (λ x. cut x (2 ^ c)) (b .kept best (inl refl)))
           (λ j k. getD-set-other new best j _ 0 (λ q. let z = k q in let y = found in omega arith)) (sym is ∙ e) (λ k. sym of ∙ g)
 
-      pub behind : u ≡ false → ((j k : ℕ) → j < k → k < n → rank j .id < rank k .id) → Best rank n c old (set new i (cut (getD new i 0) (2 ^ c))) best (i + 1)
+      pub behind : u ≡ false → ((j k : ℕ) → j < k → k < n → rank j .id < rank k .id) → BestSoFar rank n c old (set new i (cut (getD new i 0) (2 ^ c))) best (i + 1)
       behind g asc =
           stays _ (length-set new i _)
           (getD-set-same new i _ 0 (has-long new i c (sym is ∙ e)) ∙ ap (λ x. cut x (2 ^ c)) here)
@@ -156,7 +156,7 @@ module _ {rank : ℕ → Rank} {n c : ℕ} {old new : List ℕ} {best i : ℕ} (
 
 -- All places.
 
-module _ {rank : ℕ → Rank} {n c : ℕ} {old new : List ℕ} {best : ℕ} (b : Best rank n c old new best n) where
+module _ {rank : ℕ → Rank} {n c : ℕ} {old new : List ℕ} {best : ℕ} (b : BestSoFar rank n c old new best n) where
   others : (i k : ℕ) → (k ≡ c → ⊥) → has (getD new i 0) k ≡ has (getD old i 0) k
   others i k d = ⊎-elim (λ q. rw (b .kept i (inl q))) (λ q. go q (ltb i n) refl) (same i best)
     where

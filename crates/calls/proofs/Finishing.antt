@@ -22,16 +22,16 @@ abbrev lasting : ℕ → ℕ → List (List ℕ) → List Entry
 lasting to d w = keep (lasts to) (map entryOf (take d w))
 
 -- after d slots, of which k last
-pub record Moved (to d : ℕ) (old new : List (List ℕ)) (k : ℕ) : Type 0 where
+pub record ToFront (to d : ℕ) (old new : List (List ℕ)) (k : ℕ) : Type 0 where
   pub size : length new ≡ mostEvents
   pub fewer : k ≤ d
   pub front : map entryOf (take k new) ≡ lasting to d old
   pub rest : (j : ℕ) → d ≤ j → getD new j [] ≡ getD old j []
 
-pub none-moved : (to : ℕ) (old : List (List ℕ)) → length old ≡ mostEvents → Moved to 0 old old 0
-none-moved to old l = record { size = l; fewer = omega arith; front = refl; rest = λ j h. refl }
+pub none-gathered : (to : ℕ) (old : List (List ℕ)) → length old ≡ mostEvents → ToFront to 0 old old 0
+none-gathered to old l = record { size = l; fewer = omega arith; front = refl; rest = λ j h. refl }
 
-module _ (to d : ℕ) (old new : List (List ℕ)) (k : ℕ) (w : Moved to d old new k) (l : d < mostEvents) (o : length old ≡ mostEvents) where
+module _ (to d : ℕ) (old new : List (List ℕ)) (k : ℕ) (w : ToFront to d old new k) (l : d < mostEvents) (o : length old ≡ mostEvents) where
   abbrev it : Entry
   it = entryOf (getD old d [])
 
@@ -43,12 +43,12 @@ module _ (to d : ℕ) (old new : List (List ℕ)) (k : ℕ) (w : Moved to d old 
   same : entryOf (getD new d []) ≡ it
   same = ap entryOf (w .rest d (omega arith))
 
-  pub dropped : endOf (entryOf (getD new d [])) ≤ to → Moved to (d + 1) old new k
+  pub dropped : endOf (entryOf (getD new d [])) ≤ to → ToFront to (d + 1) old new k
   dropped h =
       let e = rw (le-ltb to (endOf it) (rw same at h)) at lasting-more ∙ append-nil (lasting to d old) in
       rw (add-one d) (record { size = w .size; fewer = omega (arith, w .fewer); front = w .front ∙ sym e; rest = λ j h. w .rest j (omega arith) })
 
-  pub kept : to < endOf (entryOf (getD new d [])) → Moved to (d + 1) old (set new k (getD new d [])) (k + 1)
+  pub kept : to < endOf (entryOf (getD new d [])) → ToFront to (d + 1) old (set new k (getD new d [])) (k + 1)
   kept h =
       let slot = getD new d [] in
       let e = rw (lt-ltb to (endOf it) (rw same at h)) at lasting-more in
@@ -60,8 +60,8 @@ module _ (to d : ℕ) (old new : List (List ℕ)) (k : ℕ) (w : Moved to d old 
       })
 
   -- a slot that is in its place already is not stored
-  pub stayed : k ≡ d → to < endOf (entryOf (getD new d [])) → Moved to (d + 1) old new (k + 1)
-  stayed e h = subst (λ z. Moved to (d + 1) old z (k + 1)) (ap (λ j. set new k (getD new j [])) (sym e) ∙ set-getD new k []) (kept h)
+  pub stayed : k ≡ d → to < endOf (entryOf (getD new d [])) → ToFront to (d + 1) old new (k + 1)
+  stayed e h = subst (λ z. ToFront to (d + 1) old z (k + 1)) (ap (λ j. set new k (getD new j [])) (sym e) ∙ set-getD new k []) (kept h)
 
-pub all-moved : {to n : ℕ} {old new : List (List ℕ)} {k : ℕ} → Moved to n old new k → Finished to n old new k
-all-moved w = record { size = w .size; count = w .fewer; lasting = w .front }
+pub all-gathered : {to n : ℕ} {old new : List (List ℕ)} {k : ℕ} → n ≤ mostEvents → ToFront to n old new k → Finished to n old new k
+all-gathered l w = record { used = record { few = omega (arith, w .fewer); size = w .size }; lasting = w .front }

@@ -13,7 +13,7 @@ use Rattle.rules.specs.declared.Entry.{Entry}
 use Rattle.rules.specs.declared.Program.{Program}
 use Rattle.rules.specs.declared.Schedule.{Schedule}
 use Rattle.rules.specs.Lists.{keep, Pairwise}
-use Rattle.rules.specs.Records.{noEntry, view, pad}
+use Rattle.rules.specs.Records.{noEntry, view, pad, mostEvents}
 use Rattle.rules.specs.Bytes.{bytes}
 use Rattle.rules.specs.Period.{effectiveEnd}
 use Rattle.rules.specs.Holding.{withHolding, endOf}
@@ -23,8 +23,8 @@ use Rattle.rules.proofs.Tests.{both, each-true}
 use Rattle.rules.proofs.ListLaws.{in-keep, keep-in, keep-map, keep-all, keep-length, asc-keep, map-cong}
 use Rattle.rules.proofs.SoundState.{SoundEntry, Sound, ById, sound-pad}
 use Rattle.calls.specs.declared.held.Head.{Head}
-use Rattle.calls.specs.Slots.{entryOf, stateOf, scheduleOf, Ready}
-use Rattle.calls.specs.Columns.{Running}
+use Rattle.calls.specs.Slots.{entryOf, slotState, scheduleOf, Ready}
+use Rattle.calls.specs.Columns.{Uncancelled}
 use Rattle.calls.specs.Live.{liveOf, live, placesTo, livePlaces, slotsAt, Placed, Picked, GivenBack, masked}
 use Rattle.calls.specs.Advanced.{Advanced, Passes}
 use Rattle.calls.specs.Finished.{Finished}
@@ -80,11 +80,11 @@ asleep ps c to h l v e = go (h .cancelled) (leb (h .begins) to) (eqb (h .held) 0
     go false true true p q s e = record { held = eqb-true (h .held) 0 s; cause = inr (inr (ltb-false c (h .begins) e)) }
 
 -- a schedule in slots as a state from which nothing was dropped: nothing has ended
-standing : {d : Head} {w : List (List ℕ)} → Ready d w → view (scheduleOf d w) ≡ stateIn (d .programs) (stateOf d w .entries) (d .clock)
+standing : {d : Head} {w : List (List ℕ)} → Ready d w → view (scheduleOf d w) ≡ stateIn (d .programs) (slotState d w .entries) (d .clock)
 standing {d} {w} r =
     view-of r
     ∙ ap (λ hs. record { clock = d .clock; programs = d .programs; entries = hs })
-    (sym (keep-all (lasts (d .clock)) (stateOf d w .entries) (λ o m. lt-ltb (d .clock) (endOf o) (sound-of r .entries o m .lasts))))
+    (sym (keep-all (lasts (d .clock)) (slotState d w .entries) (λ o m. lt-ltb (d .clock) (endOf o) (sound-of r .entries o m .lasts))))
 
 module _ {d : Head} {w : List (List ℕ)} (r : Ready d w) {to m : ℕ} {places : List ℕ} (p : Picked (d .clock) to (d .count) w places m) where
   abbrev part : Head
@@ -94,7 +94,7 @@ module _ {d : Head} {w : List (List ℕ)} (r : Ready d w) {to m : ℕ} {places :
   n = d .count
 
   abbrev us : List Entry
-  us = stateOf d w .entries
+  us = slotState d w .entries
 
   -- the event at a place
   abbrev here : ℕ → Entry
@@ -111,7 +111,7 @@ module _ {d : Head} {w : List (List ℕ)} (r : Ready d w) {to m : ℕ} {places :
   lively = keep tag (placesTo n)
 
   fits : m ≤ length places
-  fits = omega (arith, p .few, p .long, r .count)
+  fits = omega (arith, p .few, p .long, r .used .few)
 
   found : take m places ≡ lively
   unfolding livePlaces
@@ -139,22 +139,22 @@ module _ {d : Head} {w : List (List ℕ)} (r : Ready d w) {to m : ℕ} {places :
   pub placed : Placed m places
   placed = record {
     long = p .long;
-    within = λ k l. omega (arith, at-place k l .0, r .count);
+    within = λ k l. omega (arith, at-place k l .0, r .used .few);
     ascend = λ k l j b. ascending m places fits (subst (Pairwise _<_) (sym found) (asc-keep _<_ tag (placesTo n) (places-ascend n))) j k b l;
   }
 
   -- The entries at the places.
 
   abbrev some : List Entry
-  some = stateOf part (slotsAt w places) .entries
+  some = slotState part (slotsAt w places) .entries
 
-  size-of : length (slotsAt w places) ≡ 48
+  size-of : length (slotsAt w places) ≡ mostEvents
   size-of = as-many w places ∙ p .long
 
   slot-of : (j : ℕ) → j < m → getD (slotsAt w places) j [] ≡ getD w (getD places j 0) []
   slot-of j l = slot-there w places j (omega (arith, fits))
 
-  pub running : Running m (slotsAt w places)
+  pub running : Uncancelled m (slotsAt w places)
   unfolding liveOf
   running j l =
       let i = getD places j 0 in
@@ -179,9 +179,8 @@ module _ {d : Head} {w : List (List ℕ)} (r : Ready d w) {to m : ℕ} {places :
 
   pub ready : Ready part (slotsAt w places)
   ready = record {
-    size = size-of;
-    count = omega (arith, p .few, r .count);
-    good = sound-pad (stateOf part (slotsAt w places)) (subst (λ hs. Sound (record { clock = d .clock; programs = d .programs; entries = hs })) (sym some-live) (record {
+    used = record { few = omega (arith, p .few, r .used .few); size = size-of };
+    good = sound-pad (slotState part (slotsAt w places)) (subst (λ hs. Sound (record { clock = d .clock; programs = d .programs; entries = hs })) (sym some-live) (record {
       clock = sound-of r .clock;
       eight = sound-of r .eight;
       programs = sound-of r .programs;
@@ -282,7 +281,7 @@ module _ {d : Head} {w : List (List ℕ)} (r : Ready d w) {to m : ℕ} {places :
 
       all-settled : keep (lasts to) (map entryOf (take n new)) ≡ keep (lasts to) vs
       all-settled =
-          let c : n ≤ length new = omega (arith, g .size, r .count) in
+          let c : n ≤ length new = omega (arith, g .size, r .used .few) in
           at-kept (lasts to) noEntry (map entryOf (take n new)) vs (in-slots new n c ∙ sym (ran .size)) (λ i b.
           let z : i < n = omega (arith, in-slots new n c) in
           rw (slot-at new n c i z) (at-any i z))

@@ -16,7 +16,7 @@ use Rattle.calls.proofs.Moment.{keep-append}
 
 -- Live events.
 
-pub none-picked : (clock to : ℕ) (w : List (List ℕ)) (places : List ℕ) → length places ≡ 48 → Picked clock to 0 w places 0
+pub none-picked : (clock to : ℕ) (w : List (List ℕ)) (places : List ℕ) → length places ≡ mostEvents → Picked clock to 0 w places 0
 unfolding livePlaces placesTo
 none-picked clock to w places l = record { long = l; few = omega arith; found = refl }
 
@@ -29,7 +29,7 @@ module _ (clock to i : ℕ) (w : List (List ℕ)) (places : List ℕ) (m : ℕ) 
   pub passed-over : is ≡ false → Picked clock to (i + 1) w places m
   passed-over f = rw (add-one i) (record { long = p .long; few = omega (arith, p .few); found = p .found ∙ sym (rw f at places-more ∙ append-nil _) })
 
-  pub picked : is ≡ true → i < 48 → Picked clock to (i + 1) w (set places m i) (m + 1)
+  pub picked : is ≡ true → i < mostEvents → Picked clock to (i + 1) w (set places m i) (m + 1)
   picked t l =
       rw (add-one i, add-one m) (record {
         long = length-set places m i ∙ p .long;

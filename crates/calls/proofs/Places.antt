@@ -14,11 +14,11 @@ use Rattle.rules.specs.Records.{noEntry}
 use Rattle.rules.specs.Refusals.{find}
 use Rattle.rules.specs.Calls.{entryId}
 use Rattle.rules.proofs.SoundState.{ById}
-use Rattle.calls.specs.Found.{Placed, Found}
+use Rattle.calls.specs.Found.{PlaceOf, Found}
 
 module _ (i : ℕ) where
   -- the place as those behind the first entry have it
-  pub behind : (x : Entry) (xs : List Entry) (k : ℕ) → Placed (x ∷ xs) i (suc k) → Placed xs i k
+  pub behind : (x : Entry) (xs : List Entry) (k : ℕ) → PlaceOf (x ∷ xs) i (suc k) → PlaceOf xs i k
   behind x xs k p = record {
     within = omega (arith, p .within);
     below = λ j l. p .below (suc j) (omega arith);

@@ -18,29 +18,24 @@ use Rattle.rules.proofs.ListLaws.{map-same}
 use Rattle.rules.proofs.Kept.{find-none}
 use Rattle.rules.proofs.SoundState.{ById}
 use Rattle.calls.specs.Slots.{entryOf}
-use Rattle.calls.specs.Found.{Placed}
+use Rattle.calls.specs.Found.{PlaceOf, widened}
 use Rattle.calls.proofs.Places.{behind}
 use Rattle.calls.proofs.Reached.{at-in}
 use Rattle.calls.proofs.Slots.{in-slots, slot-at}
 
--- the id in a slot is its first number
-pub id-at : (x : List ℕ) → entryId (entryOf x) ≡ getD x 0 0
-unfolding entryOf
-id-at x = refl
-
--- a place by the first numbers of the slots
+-- a place by the events in the slots
 pub placed-in : (w : List (List ℕ)) (n i at : ℕ) → n ≤ length w → at ≤ n
-    → ((k : ℕ) → k < at → getD (getD w k []) 0 0 < i) → (at < n → i ≤ getD (getD w at []) 0 0) → Placed (map entryOf (take n w)) i at
+    → ((k : ℕ) → k < at → entryId (entryOf (getD w k [])) < i) → (at < n → i ≤ entryId (entryOf (getD w at []))) → PlaceOf (map entryOf (take n w)) i at
 placed-in w n i at r h b f =
     let long = in-slots w n r in
     record {
       within = omega arith;
-      below = λ k l. rw (slot-at w n r k (omega arith), id-at (getD w k [])) (b k l);
-      from = λ l. rw (slot-at w n r at (omega arith), id-at (getD w at [])) (f (omega arith));
+      below = λ k l. rw (slot-at w n r k (omega arith)) (b k l);
+      from = λ l. rw (slot-at w n r at (omega arith)) (f (omega arith));
     }
 
 -- an entry goes in at the place of its id
-insert-at : (a : Entry) (hs : List Entry) (at : ℕ) → Placed hs (entryId a) at → All (λ h. entryId h ≡ entryId a → ⊥) hs
+insert-at : (a : Entry) (hs : List Entry) (at : ℕ) → PlaceOf hs (entryId a) at → All (λ h. entryId h ≡ entryId a → ⊥) hs
     → insert entryId a hs ≡ take at hs ++ (a ∷ drop at hs)
 insert-at a [] zero p n = refl
 insert-at a [] (suc k) p n = absurd (omega (arith, p .within))
@@ -89,10 +84,6 @@ module _ {A B : Type 0} (f : A → B) where
   map-set (x ∷ xs) zero a = refl
   map-set (x ∷ xs) (suc i) a = ap (_∷_ (f x)) (map-set xs i a)
 
--- the slots with one put in, as `put_in` leaves them
-abbrev pub widened : List (List ℕ) → ℕ → ℕ → List ℕ → List (List ℕ)
-widened w n at x = take at w ++ (x ∷ drop at (take n w)) ++ drop (n + 1) w
-
 module _ (w : List (List ℕ)) (n : ℕ) where
   abbrev hs : List Entry
   hs = map entryOf (take n w)
@@ -109,7 +100,7 @@ module _ (w : List (List ℕ)) (n : ℕ) where
       length-append (take at w ++ (x ∷ drop at (take n w))) (drop (n + 1) w) ∙ omega (arith, length-drop (n + 1) w)
 
   -- the events in use are those before with that in the slot
-  pub put-in : n < length w → (a : Entry) (x : List ℕ) (at : ℕ) → entryOf x ≡ a → Placed hs (entryId a) at → find (entryId a) hs ≡ none
+  pub put-in : n < length w → (a : Entry) (x : List ℕ) (at : ℕ) → entryOf x ≡ a → PlaceOf hs (entryId a) at → find (entryId a) hs ≡ none
       → map entryOf (take (n + 1) (widened w n at x)) ≡ insert entryId a hs
   put-in l a x at e p f =
       let long = in-slots w n (omega arith) in

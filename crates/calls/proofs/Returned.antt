@@ -11,23 +11,23 @@ use Rattle.rules.proofs.SoundState.{rules}
 use Rattle.calls.specs.declared.Answered.{Answered}
 use Rattle.calls.specs.declared.Acted.{Acted}
 use Rattle.calls.specs.declared.held.Head.{Head}
-use Rattle.calls.specs.Slots.{headOf, scheduleOf, Apart, Ready}
-use Rattle.calls.specs.Answered.{outcomeOf, told, Acts}
+use Rattle.calls.specs.Slots.{headOf, scheduleOf, TakenApart, Ready}
+use Rattle.calls.specs.Answered.{outcomeOf, told, ByValue, Acts}
 use Rattle.calls.specs.declared.advance.Passed.{Passed}
 use Rattle.calls.specs.Advanced.{Advanced, Advances}
 
-module _ (s : Schedule) (d : Head) (w : List (List ℕ)) (q : d ≡ headOf s) (a : Apart s w) where
+module _ {s : Schedule} {d : Head} {w : List (List ℕ)} (q : d ≡ headOf s) (a : TakenApart s w) where
   -- head and slots are the schedule
   pub same-schedule : scheduleOf d w ≡ s
   same-schedule = ap (λ h. scheduleOf h w) q ∙ a .same
 
   pub ready : sound s ≡ true → Ready d w
-  ready e = record { size = a .size; count = rw q (rules s e .count); good = ap sound same-schedule ∙ e }
+  ready e = record { used = record { few = rw q (rules s e .count); size = a .size }; good = ap sound same-schedule ∙ e }
 
-  pub returned : (c : Call) (bytes : List ℕ) (r : Acted) (w′ : List (List ℕ)) → Acts r w′ bytes (call (scheduleOf d w) c)
-      → (b : Answered) → (b .answer ≡ r .answer) × (b .schedule ≡ scheduleOf (r .head) w′) → outcomeOf b bytes [] ≡ call s c
-  returned c bytes r w′ acts b p =
-      (λ i. record { number = numberOf (p .0 i); value = valueOf (p .0 i); state = p .1 i; bytes = bytes; records = [] })
+  pub returned : {bytes : List ℕ} {r : Acted} {w′ : List (List ℕ)} {b : Answered} (c : Call) → Acts r w′ bytes (call (scheduleOf d w) c)
+      → ByValue r w′ b → outcomeOf b bytes [] ≡ call s c
+  returned {bytes} c acts p =
+      (λ i. record { number = numberOf (p .answer i); value = valueOf (p .answer i); state = p .schedule i; bytes = bytes; records = [] })
       ∙ acts .outcome ∙ ap (λ z. call z c) same-schedule
 
   -- a call that leaves it as it is
@@ -35,5 +35,5 @@ module _ (s : Schedule) (d : Head) (w : List (List ℕ)) (q : d ≡ headOf s) (a
   told-of c a e = subst (λ z. told a z ≡ call z c) same-schedule e
 
   -- the moments, from the schedule that was given
-  pub advanced-from : (t : ℕ) (rows : List ℕ) (r : Passed) (next : List (List ℕ)) → Advances d w t rows r next → Advanced s t rows (scheduleOf (r .head) next) (r .rows)
-  advanced-from t rows r next v = subst (λ z. Advanced z t rows (scheduleOf (r .head) next) (r .rows)) same-schedule (v .advanced)
+  pub advanced-from : {t : ℕ} {rows : List ℕ} {r : Passed} {next : List (List ℕ)} → Advances d w t rows r next → Advanced s t rows (scheduleOf (r .head) next) (r .rows)
+  advanced-from {t} {rows} {r} {next} v = subst (λ z. Advanced z t rows (scheduleOf (r .head) next) (r .rows)) same-schedule (v .advanced)

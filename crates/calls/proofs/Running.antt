@@ -102,10 +102,11 @@ module _ {first : Schedule} {lines old : List ℕ} {s : Schedule} {from at : ℕ
       unfolding runs
       running-stop g = running-all (rw (next, lt-leb mostText (length old - at) g))
 
-      pub running-more : {told : Telling} {w : List (List ℕ)} {rows newer : List ℕ} → mostText ≤ length old - at → Says s (lineOf l) new at told w rows newer
+      pub running-more : {told : Telling} {w : List (List ℕ)} {rows newer : List ℕ} {line : Line} → mostText ≤ length old - at → line ≡ lineOf l → Says s line new at told w rows newer
           → Running first lines old (scheduleOf (told .head) w) (end + 1) (told .behind) newer
       unfolding runs tell
-      running-more {told} {w} {rows} {newer} g says =
+      running-more {told} {w} {rows} {newer} {line} g is said =
+          let says : Says s (lineOf l) new at told w rows newer = rw is at said in
           let t = tell s l .text in
           let short = tell-length s l in
           let put = says .text .end in

@@ -15,11 +15,11 @@ use Rattle.rules.specs.declared.Id.{Id}
 use Rattle.rules.specs.declared.Schedule.{Schedule}
 use Rattle.rules.specs.declared.Frame.{Frame}
 use Rattle.rules.specs.declared.Frame.the-variants as frame
-use Rattle.rules.specs.Records.{mostEvents, idOf, has, view}
-use Rattle.rules.specs.Bytes.{read}
+use Rattle.rules.specs.Records.{idOf, has, view, idNumber, mostRows}
+use Rattle.rules.specs.Bytes.{read, rowSize, rowsSize}
 use Rattle.rules.specs.Sound.{sound}
 use Rattle.rules.specs.Refusals.{find}
-use Rattle.rules.specs.Calls.{Value, Ranked, Call, addProgram, deliver, cancel, setClock, ask, list, cancelCode, received, bestDefault, defaultFor, holderIn, answerFor, counted, numberOf, valueOf, does, refusal, accepts, accepted, refused, Outcome, call}
+use Rattle.rules.specs.Calls.{program, event, cancellation, question, holder, Value, Ranked, Call, bare, entryId, addProgram, deliver, cancel, setClock, ask, list, cancelCode, received, bestDefault, defaultFor, holderIn, answerFor, counted, numberOf, valueOf, does, refusal, accepts, accepted, refused, Outcome, call}
 use Rattle.rules.specs.declared.Line.the-variants.{Good, Bad}
 use Rattle.rules.specs.Frames.{frameCall}
 use Rattle.rules.specs.Printed.{refusedText, threeText, codeText, rowsText, askText, frameText, room, tellFrame}
@@ -31,43 +31,42 @@ use Rattle.calls.specs.Answered.{Acts}
 use Rattle.calls.specs.Advanced.{Reads}
 use Rattle.calls.specs.Says.{ActsOn, Says}
 use Rattle.calls.specs.declared.lines.Telling.{Telling}
-use Rattle.calls.specs.Slots.{scheduleOf}
+use Rattle.calls.specs.Slots.{scheduleOf, InUse}
 use Rattle.text.specs.Texts.{Stands, mostText, ifRoom}
 
 -- Rows are read off the front of a buffer alone.
 
 module _ (a b : List ℕ) where
   -- the same numbers below a place
-  abbrev Alike : ℕ → Type 0
-  Alike m = (j : ℕ) → j < m → getD a j 0 ≡ getD b j 0
+  abbrev AlikeUpTo : ℕ → Type 0
+  AlikeUpTo m = (j : ℕ) → j < m → getD a j 0 ≡ getD b j 0
 
-  read-same : (n at : ℕ) → Alike (at + n) → read n at a ≡ read n at b
+  read-same : (n at : ℕ) → AlikeUpTo (at + n) → read n at a ≡ read n at b
   unfolding read
   read-same zero at s = refl
   read-same (suc n) at s = ap₂ (λ x y. x * 256 + y) (read-same n at (λ j l. s j (omega arith))) (s (at + n) (omega arith))
 
-  rows-same : (n at : ℕ) → Alike (at + 17 * n) → rowsText n at a ≡ rowsText n at b
+  rows-same : (n at : ℕ) → AlikeUpTo (at + rowSize * n) → rowsText n at a ≡ rowsText n at b
   unfolding rowsText
   rows-same zero at s = refl
   rows-same (suc n) at s =
       let time = read-same 8 at (λ j l. s j (omega arith)) in
       let id = read-same 8 (at + 8) (λ j l. s j (omega arith)) in
       let code = read-same 1 (at + 16) (λ j l. s j (omega arith)) in
-      ap₂ _++_ (λ i. threeText (time i) (id i) (code i)) (rows-same n (at + 17) (λ j l. s j (omega arith)))
+      ap₂ _++_ (λ i. threeText (time i) (id i) (code i)) (rows-same n (at + rowSize) (λ j l. s j (omega arith)))
 
-  pub rows-front : (n : ℕ) → take (17 * n) a ≡ take (17 * n) b → rowsText n 0 a ≡ rowsText n 0 b
-  rows-front n e = rows-same n 0 (λ j l. let m : j < 17 * n = omega arith in sym (getD-take (17 * n) a j 0 m) ∙ ap (λ z. getD z j 0) e ∙ getD-take (17 * n) b j 0 m)
+  pub rows-front : (n : ℕ) → take (rowSize * n) a ≡ take (rowSize * n) b → rowsText n 0 a ≡ rowsText n 0 b
+  rows-front n e = rows-same n 0 (λ j l. let m : j < rowSize * n = omega arith in sym (getD-take (rowSize * n) a j 0 m) ∙ ap (λ z. getD z j 0) e ∙ getD-take (rowSize * n) b j 0 m)
 
 -- A frame's call.
 
 module _ {s : Schedule} {r : Acted} {w : List (List ℕ)} {rows : List ℕ} where
   -- a call whose text hangs on its value alone
-  on : (f : Frame) (T : ℕ → Value → List ℕ) → ((clock : ℕ) (o : Outcome) → frameText clock f o ≡ T clock (o .value)) → length rows ≡ 1632 → Acts r w [] (call s (frameCall f room)) → ActsOn s f r w rows
+  on : (f : Frame) (T : ℕ → Value → List ℕ) → ((clock : ℕ) (o : Outcome) → frameText clock f o ≡ T clock (o .value)) → length rows ≡ rowsSize → Acts r w [] (call s (frameCall f room)) → ActsOn s f r w rows
   on f T is long a =
       let v = ap (λ (o : Outcome). o .value) (a .outcome) in
       record {
-        size = a .size;
-        count = a .count;
+        used = a .used;
         long = long;
         number = ap (λ (o : Outcome). o .number) (a .outcome);
         value = v;
@@ -75,22 +74,21 @@ module _ {s : Schedule} {r : Acted} {w : List (List ℕ)} {rows : List ℕ} wher
         text = λ clock o p q. is clock o ∙ ap (T clock) (p ∙ v) ∙ sym (is clock (call s (frameCall f room)));
       }
 
-  pub on-event : (e : Event) → length rows ≡ 1632 → Acts r w [] (call s (deliver e)) → ActsOn s (frame.Event e) r w rows
+  pub on-event : (e : Event) → length rows ≡ rowsSize → Acts r w [] (call s (deliver e)) → ActsOn s (frame.Event e) r w rows
   on-event e = on (frame.Event e) (λ clock. codeText clock (idOf e)) (λ clock o. refl)
 
-  pub on-cancel : (i : Id) → length rows ≡ 1632 → Acts r w [] (call s (cancel (i .value))) → ActsOn s (frame.Cancel i) r w rows
-  on-cancel i = on (frame.Cancel i) (λ clock. codeText clock (i .value)) (λ clock o. refl)
+  pub on-cancel : (i : Id) → length rows ≡ rowsSize → Acts r w [] (call s (cancel (idNumber i))) → ActsOn s (frame.Cancel i) r w rows
+  on-cancel i = on (frame.Cancel i) (λ clock. codeText clock (idNumber i)) (λ clock o. refl)
 
-  pub on-program : (n p d : ℕ) → length rows ≡ 1632 → Acts r w [] (call s (addProgram n p d)) → ActsOn s (frame.Program n p d) r w rows
+  pub on-program : (n p d : ℕ) → length rows ≡ rowsSize → Acts r w [] (call s (addProgram n p d)) → ActsOn s (frame.Program n p d) r w rows
   on-program n p d = on (frame.Program n p d) (λ clock v. []) (λ clock o. refl)
 
-  pub on-ask : (c : ℕ) → length rows ≡ 1632 → Acts r w [] (call s (ask c)) → ActsOn s (frame.Ask c) r w rows
+  pub on-ask : (c : ℕ) → length rows ≡ rowsSize → Acts r w [] (call s (ask c)) → ActsOn s (frame.Ask c) r w rows
   on-ask c = on (frame.Ask c) (λ clock. askText c) (λ clock o. refl)
 
   pub on-clock : (t : ℕ) → Reads s t r w rows → ActsOn s (frame.Clock t) r w rows
   on-clock t a = record {
-    size = a .size;
-    count = a .count;
+    used = a .used;
     long = a .long;
     number = a .number room refl;
     value = a .value room refl;
@@ -101,57 +99,56 @@ module _ {s : Schedule} {r : Acted} {w : List (List ℕ)} {rows : List ℕ} wher
   }
 
 -- the count of a call that was accepted, on a schedule that is sound then, or of none
-from-done : (s : Schedule) (c : Call) → (sound s ≡ true → counted (does (view s) c .value) ≤ 96) → counted (call s c .value) ≤ 96
+from-done : (s : Schedule) (c : Call) → (sound s ≡ true → counted (does (view s) c .value) ≤ mostRows) → counted (call s c .value) ≤ mostRows
 unfolding call refusal
 from-done s c h = by (accepts s c) refl
   where
-    by : (t : Bool) → accepts s c ≡ t → counted (cond t (accepted (does (view s) c)) (refused s c) .value) ≤ 96
+    by : (t : Bool) → accepts s c ≡ t → counted (cond t (accepted (does (view s) c)) (refused s c) .value) ≤ mostRows
     by true e = h (not-false (sound s) (first-not 2 (not (sound s)) _ refl e .0))
     by false e = omega arith
 
-none-counted : (o : Option Entry) → counted (received o) ≤ 96
+none-counted : (o : Option Entry) → counted (received o) ≤ mostRows
 none-counted none = omega arith
 none-counted (some h) = omega arith
 
-cancel-counted : (o : Option Entry) → counted (cancelCode o) ≤ 96
+cancel-counted : (o : Option Entry) → counted (cancelCode o) ≤ mostRows
 cancel-counted none = omega arith
 cancel-counted (some h) = by (h .cancelled)
   where
-    by : (t : Bool) → counted (cancelCode (some (record { event = h .event; begins = h .begins; held = h .held; cancelled = t }))) ≤ 96
+    by : (t : Bool) → counted (cancelCode (some (record { event = h .event; begins = h .begins; held = h .held; cancelled = t }))) ≤ mostRows
     by true = omega arith
     by false = omega arith
 
-default-counted : (q : Option Ranked) → counted (defaultFor q) ≤ 96
+default-counted : (q : Option Ranked) → counted (defaultFor q) ≤ mostRows
 default-counted none = omega arith
 default-counted (some q) = omega arith
 
-holder-counted : (c : ℕ) (hs : List Entry) (v : Value) → counted v ≤ 96 → counted (holderIn c hs v) ≤ 96
+holder-counted : (c : ℕ) (hs : List Entry) (v : Value) → counted v ≤ mostRows → counted (holderIn c hs v) ≤ mostRows
 unfolding holderIn
 holder-counted c [] v h = h
 holder-counted c (x ∷ hs) v h = by (has (x .held) c) (holder-counted c hs v h)
   where
-    by : (t : Bool) → counted (holderIn c hs v) ≤ 96 → counted (cond t (Value.holder (x .event .id .value)) (holderIn c hs v)) ≤ 96
+    by : (t : Bool) → counted (holderIn c hs v) ≤ mostRows → counted (cond t (holder (entryId x)) (holderIn c hs v)) ≤ mostRows
     by true g = omega arith
     by false g = g
 
--- no call counts more than 96: rows are at most 96, held events at most 48
-pub call-counted : (s : Schedule) (c : Call) → counted (call s c .value) ≤ 96
+-- no call counts more than there can be rows: held events are fewer
+pub call-counted : (s : Schedule) (c : Call) → counted (call s c .value) ≤ mostRows
 unfolding does answerFor
-call-counted s (addProgram n p d) = from-done s (addProgram n p d) (λ e. omega arith)
-call-counted s (deliver v) = from-done s (deliver v) (λ e. none-counted (find (idOf v) (view s .entries)))
-call-counted s (cancel i) = from-done s (cancel i) (λ e. cancel-counted (find i (view s .entries)))
+call-counted s (bare (program n p d)) = from-done s (addProgram n p d) (λ e. omega arith)
+call-counted s (bare (event v)) = from-done s (deliver v) (λ e. none-counted (find (idOf v) (view s .entries)))
+call-counted s (bare (cancellation i)) = from-done s (cancel i) (λ e. cancel-counted (find i (view s .entries)))
+call-counted s (bare (question c)) = from-done s (ask c) (λ e. holder-counted c (view s .entries) _ (default-counted (bestDefault c 0 (s .programs))))
 call-counted s (setClock t b) = from-done s (setClock t b) (λ e. few-rows s e t)
-call-counted s (ask c) = from-done s (ask c) (λ e. holder-counted c (view s .entries) _ (default-counted (bestDefault c 0 (s .programs))))
 call-counted s (list r) = from-done s (list r) (λ e. omega (arith, sound-view s e .room))
 
 -- A line.
 
 module _ (s : Schedule) {old new : List ℕ} {at : ℕ} {w : List (List ℕ)} {rows : List ℕ} (fits : at + mostText ≤ length old) where
-  pub says-bad : (r : Telling) → length w ≡ mostEvents → r .head .count ≤ mostEvents → length rows ≡ 1632 → scheduleOf (r .head) w ≡ s
+  pub says-bad : (r : Telling) → InUse (r .head .count) w → length rows ≡ rowsSize → scheduleOf (r .head) w ≡ s
       → Stands old at (ifRoom 29 at old (refusedText 1)) new (r .behind) → Says s Bad old at r w rows new
-  says-bad r size count long same p = record {
-    size = size;
-    count = count;
+  says-bad r used long same p = record {
+    used = used;
     long = long;
     state = same;
     text = rw (le-leb (at + 29) (length old) (omega arith)) at p;
@@ -159,16 +156,15 @@ module _ (s : Schedule) {old new : List ℕ} {at : ℕ} {w : List (List ℕ)} {r
 
   pub says-good : (f : Frame) (a : Acted) → ActsOn s f a w rows → (behind : ℕ)
       → ((o : Outcome) → o .number ≡ numberOf (a .answer) → o .value ≡ valueOf (a .answer) → o .bytes ≡ rows
-      → Stands old at (cond (eqb (length rows) 1632 && leb (counted (o .value)) 96) (ifRoom mostText at old (cond (eqb (o .number) 0) (frameText (s .clock) f o) (refusedText (o .number)))) []) new behind)
+      → Stands old at (cond (eqb (length rows) rowsSize && leb (counted (o .value)) mostRows) (ifRoom mostText at old (cond (eqb (o .number) 0) (frameText (s .clock) f o) (refusedText (o .number)))) []) new behind)
       → Says s (Good f) old at (record { head = a .head; behind = behind }) w rows new
   unfolding tellFrame
   says-good f a t behind told =
       let o : Outcome = record { number = numberOf (a .answer); value = valueOf (a .answer); state = s; bytes = rows; records = [] } in
-      let few : counted (valueOf (a .answer)) ≤ 96 = rw (t .value) (call-counted s (frameCall f room)) in
+      let few : counted (valueOf (a .answer)) ≤ mostRows = rw (t .value) (call-counted s (frameCall f room)) in
       record {
-        size = t .size;
-        count = t .count;
+        used = t .used;
         long = t .long;
         state = t .state;
-        text = rw (eq-eqb (length rows) 1632 (t .long), le-leb (counted (valueOf (a .answer))) 96 few, le-leb (at + mostText) (length old) fits, t .text (s .clock) o refl refl, t .number) at (told o refl refl refl);
+        text = rw (eq-eqb (length rows) rowsSize (t .long), le-leb (counted (valueOf (a .answer))) mostRows few, le-leb (at + mostText) (length old) fits, t .text (s .clock) o refl refl, t .number) at (told o refl refl refl);
       }

@@ -9,7 +9,7 @@ use Rattle.rules.specs.Records.{noEntry, view}
 use Rattle.rules.proofs.SoundState.{Sound, view-pad, sound-view}
 use Rattle.calls.specs.declared.held.Head.{Head}
 use Rattle.rules.specs.Holding.{withHolding}
-use Rattle.calls.specs.Slots.{entryOf, stateOf, scheduleOf, Ready}
+use Rattle.calls.specs.Slots.{idPlace, programPlace, controlsPlace, createdPlace, startPlace, durationPlace, randomizeStartPlace, randomizeDurationPlace, startDrawPlace, durationDrawPlace, beginsPlace, heldPlace, cancelledPlace, slotSize, values32, entryOf, slotState, scheduleOf, Ready}
 use Rattle.calls.proofs.Reached.{at-map}
 
 module _ (w : List (List ℕ)) (n : ℕ) (fits : n ≤ length w) where
@@ -21,41 +21,41 @@ module _ (w : List (List ℕ)) (n : ℕ) (fits : n ≤ length w) where
 
 module _ {d : Head} {w : List (List ℕ)} (r : Ready d w) where
   pub within : d .count ≤ length w
-  within = omega (arith, r .count, r .size)
+  within = omega (arith, r .used .few, r .used .size)
 
   -- as many events as there are slots in use
   pub count-of : scheduleOf d w .count ≡ d .count
   count-of = in-slots w (d .count) within
 
-  pub view-of : view (scheduleOf d w) ≡ stateOf d w
-  view-of = view-pad (stateOf d w)
+  pub view-of : view (scheduleOf d w) ≡ slotState d w
+  view-of = view-pad (slotState d w)
 
-  pub sound-of : Sound (stateOf d w)
+  pub sound-of : Sound (slotState d w)
   sound-of = subst Sound view-of (sound-view (scheduleOf d w) (r .good))
 
   -- the entry at a place is the event in its slot
   pub entry-at : (k : ℕ) → k < d .count → getD (scheduleOf d w .entries) k noEntry ≡ entryOf (getD w k [])
-  entry-at k l = List·getD-append (stateOf d w .entries) _ noEntry k (omega (arith, count-of)) ∙ slot-at w (d .count) within k l
+  entry-at k l = List·getD-append (slotState d w .entries) _ noEntry k (omega (arith, count-of)) ∙ slot-at w (d .count) within k l
 
-module _ (slot : List ℕ) (l : length slot ≡ 13) where
+module _ (slot : List ℕ) (l : length slot ≡ slotSize) where
   -- a slot with another mask
-  pub mask-in : (m : ℕ) → m % 4294967296 ≡ m → entryOf (set slot 11 m) ≡ withHolding (entryOf slot) (record { held = m })
+  pub mask-in : (m : ℕ) → m % values32 ≡ m → entryOf (set slot heldPlace m) ≡ withHolding (entryOf slot) (record { held = m })
   unfolding entryOf
   mask-in m e =
-      let same : (j : ℕ) → (j ≡ 11 → ⊥) → getD (set slot 11 m) j 0 ≡ getD slot j 0 = λ j d. getD-set-other slot 11 j m 0 d in
+      let same : (j : ℕ) → (j ≡ heldPlace → ⊥) → getD (set slot heldPlace m) j 0 ≡ getD slot j 0 = λ j d. getD-set-other slot heldPlace j m 0 d in
       rw (
-        same 0 (λ q. omega arith),
-        same 1 (λ q. omega arith),
-        same 2 (λ q. omega arith),
-        same 3 (λ q. omega arith),
-        same 4 (λ q. omega arith),
-        same 5 (λ q. omega arith),
-        same 6 (λ q. omega arith),
-        same 7 (λ q. omega arith),
-        same 8 (λ q. omega arith),
-        same 9 (λ q. omega arith),
-        same 10 (λ q. omega arith),
-        same 12 (λ q. omega arith),
-        getD-set-same slot 11 m 0 (omega arith),
+        same idPlace (λ q. omega arith),
+        same programPlace (λ q. omega arith),
+        same controlsPlace (λ q. omega arith),
+        same createdPlace (λ q. omega arith),
+        same startPlace (λ q. omega arith),
+        same durationPlace (λ q. omega arith),
+        same randomizeStartPlace (λ q. omega arith),
+        same randomizeDurationPlace (λ q. omega arith),
+        same startDrawPlace (λ q. omega arith),
+        same durationDrawPlace (λ q. omega arith),
+        same beginsPlace (λ q. omega arith),
+        same cancelledPlace (λ q. omega arith),
+        getD-set-same slot heldPlace m 0 (omega arith),
         e,
       )

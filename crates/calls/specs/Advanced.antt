@@ -1,47 +1,45 @@
 -- What the core of the clock call leaves.
 use mathlib.Core.Path.{_≡_}
-use Prim.Native.Nat.{ℕ, _*_, _≤_}
+use Prim.Native.Nat.{ℕ, _*_}
 use mathlib.Core.List.{List}
 use lib.ListN.{length, take}
 use Rattle.rules.specs.declared.Schedule.{Schedule}
 use Rattle.rules.specs.Records.{mostEvents, view, pad}
 use Rattle.rules.specs.Lists.{keep}
-use Rattle.rules.specs.Bytes.{bytes}
+use Rattle.rules.specs.Bytes.{bytes, rowSize, rowsSize}
 use Rattle.rules.specs.Moments.{lasts, passed}
 use Rattle.rules.specs.Calls.{numberOf, valueOf, counted, setClock, call}
 use Rattle.calls.specs.declared.Acted.{Acted}
 use Rattle.calls.specs.declared.advance.Passed.{Passed}
 use Rattle.calls.specs.declared.held.Head.{Head}
-use Rattle.calls.specs.Slots.{scheduleOf}
+use Rattle.calls.specs.Slots.{scheduleOf, InUse}
 use Rattle.calls.specs.Live.{masked}
 
 -- the schedule at the reading, how many rows there are, and their bytes at the front of the buffer
 pub record Advanced (s : Schedule) (reading : ℕ) (buffer : List ℕ) (next : Schedule) (count : ℕ) : Type 0 where
   pub schedule : next ≡ pad (passed (view s) reading .state)
   pub rows : count ≡ length (passed (view s) reading .rows)
-  pub written : take (17 * count) buffer ≡ bytes (passed (view s) reading .rows)
-  pub size : length buffer ≡ 1632
+  pub written : take (rowSize * count) buffer ≡ bytes (passed (view s) reading .rows)
+  pub size : length buffer ≡ rowsSize
 
 -- the moments up to the reading, passed with none of the first events dropped: the mask of each at the end, how many rows there are, and their bytes at the front of the buffer
 pub record Passes (s : Schedule) (reading : ℕ) (buffer : List ℕ) (count : ℕ) (held : List ℕ) : Type 0 where
-  pub masks : length held ≡ 48
+  pub masks : length held ≡ mostEvents
   pub state : passed (view s) reading .state ≡ record { clock = reading; programs = s .programs; entries = keep (lasts reading) (masked (s .count) (s .entries) held) }
   pub rows : count ≡ length (passed (view s) reading .rows)
-  pub written : take (17 * count) buffer ≡ bytes (passed (view s) reading .rows)
-  pub size : length buffer ≡ 1632
+  pub written : take (rowSize * count) buffer ≡ bytes (passed (view s) reading .rows)
+  pub size : length buffer ≡ rowsSize
 
 -- the same of a schedule in slots
 pub record Advances (d : Head) (w : List (List ℕ)) (reading : ℕ) (buffer : List ℕ) (r : Passed) (next : List (List ℕ)) : Type 0 where
-  pub size : length next ≡ mostEvents
-  pub count : r .head .count ≤ mostEvents
+  pub used : InUse (r .head .count) next
   pub advanced : Advanced (scheduleOf d w) reading buffer (scheduleOf (r .head) next) (r .rows)
 
 -- what a clock call on slots gives and leaves: what it would with any buffer that all rows fit, and the bytes of the rows at the front of its own
 pub record Reads (s : Schedule) (reading : ℕ) (r : Acted) (next : List (List ℕ)) (rows : List ℕ) : Type 0 where
-  pub size : length next ≡ mostEvents
-  pub count : r .head .count ≤ mostEvents
-  pub long : length rows ≡ 1632
-  pub number : (b : List ℕ) → length b ≡ 1632 → numberOf (r .answer) ≡ call s (setClock reading b) .number
-  pub value : (b : List ℕ) → length b ≡ 1632 → valueOf (r .answer) ≡ call s (setClock reading b) .value
-  pub state : (b : List ℕ) → length b ≡ 1632 → scheduleOf (r .head) next ≡ call s (setClock reading b) .state
-  pub written : (b : List ℕ) → length b ≡ 1632 → let o = call s (setClock reading b) in take (17 * counted (o .value)) rows ≡ take (17 * counted (o .value)) (o .bytes)
+  pub used : InUse (r .head .count) next
+  pub long : length rows ≡ rowsSize
+  pub number : (b : List ℕ) → length b ≡ rowsSize → numberOf (r .answer) ≡ call s (setClock reading b) .number
+  pub value : (b : List ℕ) → length b ≡ rowsSize → valueOf (r .answer) ≡ call s (setClock reading b) .value
+  pub state : (b : List ℕ) → length b ≡ rowsSize → scheduleOf (r .head) next ≡ call s (setClock reading b) .state
+  pub written : (b : List ℕ) → length b ≡ rowsSize → let o = call s (setClock reading b) in take (rowSize * counted (o .value)) rows ≡ take (rowSize * counted (o .value)) (o .bytes)

@@ -6,10 +6,10 @@ use mathlib.Core.List.{List, [], _∷_, _++_, map}
 use lib.Dec.{leb, ltb, eqb}
 use lib.ListN.{length, take, getD}
 use Rattle.rules.specs.declared.Program.{Program}
-use Rattle.rules.specs.Records.{idOf, has, programAt}
+use Rattle.rules.specs.Records.{idOf, has, programAt, mostEvents, mostPrograms}
 use Rattle.rules.specs.Holding.{endOf}
 use Rattle.rules.specs.Rows.{Row}
-use Rattle.rules.specs.Bytes.{bytes}
+use Rattle.rules.specs.Bytes.{bytes, rowSize}
 use Rattle.calls.specs.Slots.{entryOf}
 
 -- what the slots have, column by column
@@ -24,15 +24,15 @@ idsOf w = map (λ r. idOf (entryOf r .event)) w
 
 -- the events of the first n slots have programs
 abbrev pub Numbered : ℕ → List (List ℕ) → Type 0
-Numbered n w = (k : ℕ) → k < n → entryOf (getD w k []) .event .program < 8
+Numbered n w = (k : ℕ) → k < n → entryOf (getD w k []) .event .program < mostPrograms
 
 -- none of the events of the first n slots is cancelled
-abbrev pub Running : ℕ → List (List ℕ) → Type 0
-Running n w = (k : ℕ) → k < n → entryOf (getD w k []) .cancelled ≡ false
+abbrev pub Uncancelled : ℕ → List (List ℕ) → Type 0
+Uncancelled n w = (k : ℕ) → k < n → entryOf (getD w k []) .cancelled ≡ false
 
 -- the columns that a moment looks at, for the first n slots: effective start and end, the controls that it carries, held mask
-pub record Dated (n : ℕ) (w : List (List ℕ)) (begins ends carried held : List ℕ) : Type 0 where
-  pub long : (length begins ≡ 48) × (length ends ≡ 48) × (length carried ≡ 48) × (length held ≡ 48)
+pub record MomentColumns (n : ℕ) (w : List (List ℕ)) (begins ends carried held : List ℕ) : Type 0 where
+  pub long : (length begins ≡ mostEvents) × (length ends ≡ mostEvents) × (length carried ≡ mostEvents) × (length held ≡ mostEvents)
   pub from : (k : ℕ) → k < n → getD begins k 0 ≡ entryOf (getD w k []) .begins
   pub till : (k : ℕ) → k < n → getD ends k 0 ≡ endOf (entryOf (getD w k []))
   pub controls : (k : ℕ) → k < n → getD carried k 0 ≡ entryOf (getD w k []) .event .controls
@@ -52,12 +52,12 @@ codeOf t begins end held kept =
 
 -- each of the first n claims what its fields say
 pub record Claims (t n : ℕ) (begins ends carried held claims : List ℕ) : Type 0 where
-  pub size : length claims ≡ 48
+  pub size : length claims ≡ mostEvents
   pub each : (k : ℕ) → k < n → getD claims k 0 ≡ claimOf t (getD begins k 0) (getD ends k 0) (getD carried k 0) (getD held k 0)
 
 -- and gives the code that they say
 pub record Codes (t n : ℕ) (begins ends held kept codes : List ℕ) : Type 0 where
-  pub size : length codes ≡ 48
+  pub size : length codes ≡ mostEvents
   pub each : (k : ℕ) → k < n → getD codes k 0 ≡ codeOf t (getD begins k 0) (getD ends k 0) (getD held k 0) (getD kept k 0)
 
 -- each code that one of the first n gives is in the set
@@ -95,4 +95,4 @@ pub record Put (old : List ℕ) (at : ℕ) (vs new : List ℕ) : Type 0 where
 pub record Written (old : List ℕ) (at : ℕ) (new : List ℕ) (next : ℕ) (rows : List Row) : Type 0 where
   pub size : length new ≡ length old
   pub count : next ≡ at + length rows
-  pub front : take (17 * next) new ≡ take (17 * at) old ++ bytes rows
+  pub front : take (rowSize * next) new ≡ take (rowSize * at) old ++ bytes rows

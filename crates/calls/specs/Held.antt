@@ -6,7 +6,7 @@ use mathlib.Core.List.{List}
 use lib.ListN.{length, getD}
 use Rattle.rules.specs.declared.Entry.{Entry}
 use Rattle.rules.specs.declared.Program.{Program}
-use Rattle.rules.specs.Records.{idOf, noEntry, programAt}
+use Rattle.rules.specs.Records.{idOf, noEntry, programAt, mostEvents}
 use Rattle.rules.specs.Holding.{endOf}
 use Rattle.calls.specs.Columns.{primaciesOf, createdOf, idsOf}
 
@@ -43,6 +43,6 @@ pub record Columned (ps : List Program) (hs : List Entry) (n : ℕ) (c : Columns
 
 -- the columns that decide between events have 48 places
 pub record Long (c : Columns) : Type 0 where
-  pub primacies : length (c .primacies) ≡ 48
-  pub created : length (c .created) ≡ 48
-  pub ids : length (c .ids) ≡ 48
+  pub primacies : length (c .primacies) ≡ mostEvents
+  pub created : length (c .created) ≡ mostEvents
+  pub ids : length (c .ids) ≡ mostEvents

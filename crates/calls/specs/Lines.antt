@@ -1,35 +1,36 @@
 -- A line acted on, and a run over many lines.
-use Prim.Native.Nat.{ℕ, suc, _+_, _-_}
+use mathlib.Core.Path.{_≡_}
+use mathlib.Core.Logic.{_⊎_}
+use Prim.Native.Nat.{ℕ, suc, _+_, _-_, _<_, _≤_}
 use mathlib.Core.Bool.{cond}
 use mathlib.Core.List.{List, [], _∷_, _++_}
 use lib.Dec.{leb, eqb}
-use lib.ListN.{length}
+use lib.ListN.{length, getD, take, drop}
 use Rattle.rules.specs.declared.Schedule.{Schedule}
 use Rattle.rules.specs.declared.Frame.{Frame}
-use Rattle.rules.specs.declared.Frame.the-variants as frame
 use Rattle.rules.specs.declared.Line.{Line}
 use Rattle.rules.specs.declared.Line.the-variants.{Good, Bad}
 use Rattle.rules.specs.Lists.{over}
 use Rattle.rules.specs.Sound.{sound}
-use Rattle.rules.specs.Calls.{Value, nothing, count, Outcome, numberOf, valueOf, call}
+use Rattle.rules.specs.Calls.{Call, bare, setClock, list, Value, nothing, count, Outcome, numberOf, valueOf, call}
 use Rattle.rules.specs.Frames.{lineOf, frameCall}
 use Rattle.rules.specs.Printed.{tell}
 use Rattle.text.specs.Texts.{mostText}
 use Rattle.calls.specs.declared.Ran as declared
+use Rattle.calls.specs.declared.lines.NextLine.{NextLine}
 
--- a lent buffer after the call of a frame: a clock reading alone writes to it
-abbrev pub lentAfter : Frame → Outcome → List ℕ → List ℕ
-lentAfter (frame.Event e) o b = b
-lentAfter (frame.Cancel i) o b = b
-lentAfter (frame.Clock t) o b = o .bytes
-lentAfter (frame.Program n p d) o b = b
-lentAfter (frame.Ask c) o b = b
+-- a buffer that stands ready after a call: only a call that is lent it writes to it
+abbrev pub bufferAfter : Call → Outcome → List ℕ → List ℕ
+bufferAfter (bare c) o b = b
+bufferAfter (setClock t lent) o b = o .bytes
+bufferAfter (list r) o b = b
 
 -- Frames and image, a frame: what its call gives and leaves, with the buffer that is lent for rows
 unfoldable pub frameOutcome : Schedule → Frame → List ℕ → Outcome
 frameOutcome s f b =
-    let o = call s (frameCall f b) in
-    record { number = o .number; value = o .value; state = o .state; bytes = lentAfter f o b; records = [] }
+    let c = frameCall f b in
+    let o = call s c in
+    record { number = o .number; value = o .value; state = o .state; bytes = bufferAfter c o b; records = [] }
 
 -- Numbers given, 1: a line that is no frame is refused before anything else
 abbrev pub decodedOutcome : Schedule → Line → List ℕ → Outcome
@@ -54,6 +55,17 @@ endedOf (b ∷ bs) = cond (eqb b 10) ([] ∷ endedOf bs) (longer b (endedOf bs))
 unfoldable pub upTo : List ℕ → ℕ
 upTo [] = 0
 upTo (b ∷ bs) = cond (eqb b 10) 0 (suc (upTo bs))
+
+-- where a line that begins at `from` may end: behind it a line feed stands, unless nothing was found
+pub record LikelyEnd (text : List ℕ) (from end : ℕ) : Type 0 where
+  pub behind : from ≤ end
+  pub within : end ≤ length text
+  pub feed : (end ≡ from) ⊎ ((end < length text) × (getD text end 0 ≡ 10))
+
+-- the line that begins at `from`: where it ends, and what it stands for
+pub record IsNext (text : List ℕ) (from : ℕ) (r : NextLine) : Type 0 where
+  pub end : r .end ≡ from + upTo (drop from text)
+  pub line : r .line ≡ lineOf (take (r .end - from) (drop from text))
 
 -- what a run leaves: the schedule, how many bytes of the lines it took, and what it wrote
 pub record Run : Type 0 where

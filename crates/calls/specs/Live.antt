@@ -33,13 +33,13 @@ slotsAt w places = map (λ i. getD w i []) places
 
 -- the first m are places of slots, and ascend
 pub record Placed (m : ℕ) (places : List ℕ) : Type 0 where
-  pub long : length places ≡ 48
-  pub within : (k : ℕ) → k < m → getD places k 0 < 48
+  pub long : length places ≡ mostEvents
+  pub within : (k : ℕ) → k < m → getD places k 0 < mostEvents
   pub ascend : (k : ℕ) → k < m → (j : ℕ) → j < k → getD places j 0 < getD places k 0
 
 -- the first m are the places of the live ones
 pub record Picked (clock to n : ℕ) (w : List (List ℕ)) (places : List ℕ) (m : ℕ) : Type 0 where
-  pub long : length places ≡ 48
+  pub long : length places ≡ mostEvents
   pub few : m ≤ n
   pub found : take m places ≡ livePlaces clock to n w
 

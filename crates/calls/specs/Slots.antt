@@ -1,54 +1,113 @@
 -- Held events in slots, and the schedule that they are with the rest of it.
 use mathlib.Core.Path.{_≡_}
-use Prim.Native.Nat.{ℕ, _%_, _≤_}
+use Prim.Native.Nat.{ℕ, _+_, _%_, _≤_}
 use mathlib.Core.Bool.{true}
 use mathlib.Core.List.{List, map}
 use lib.Dec.{eqb}
 use lib.ListN.{length, take, getD}
 use Rattle.rules.specs.declared.Entry.{Entry}
 use Rattle.rules.specs.declared.Schedule.{Schedule}
-use Rattle.rules.specs.Records.{State, mostEvents, pad}
+use Rattle.rules.specs.Records.{State, mostEvents, eventOf, pad}
+use Rattle.rules.specs.Bytes.{rowsSize}
 use Rattle.rules.specs.Sound.{sound}
 use Rattle.calls.specs.declared.held.Head.{Head}
+
+-- the places of the numbers in a slot: the fields of an event in their order, then effective start, held mask and the mark of a cancelled one
+abbrev pub idPlace : ℕ
+idPlace = 0
+
+abbrev pub programPlace : ℕ
+programPlace = idPlace + 1
+
+abbrev pub controlsPlace : ℕ
+controlsPlace = programPlace + 1
+
+abbrev pub createdPlace : ℕ
+createdPlace = controlsPlace + 1
+
+abbrev pub startPlace : ℕ
+startPlace = createdPlace + 1
+
+abbrev pub durationPlace : ℕ
+durationPlace = startPlace + 1
+
+abbrev pub randomizeStartPlace : ℕ
+randomizeStartPlace = durationPlace + 1
+
+abbrev pub randomizeDurationPlace : ℕ
+randomizeDurationPlace = randomizeStartPlace + 1
+
+abbrev pub startDrawPlace : ℕ
+startDrawPlace = randomizeDurationPlace + 1
+
+abbrev pub durationDrawPlace : ℕ
+durationDrawPlace = startDrawPlace + 1
+
+abbrev pub beginsPlace : ℕ
+beginsPlace = durationDrawPlace + 1
+
+abbrev pub heldPlace : ℕ
+heldPlace = beginsPlace + 1
+
+abbrev pub cancelledPlace : ℕ
+cancelledPlace = heldPlace + 1
+
+abbrev pub slotSize : ℕ
+slotSize = cancelledPlace + 1
+
+-- how many values a field of so many bits has
+abbrev pub values8 : ℕ
+values8 = 256
+
+abbrev pub values16 : ℕ
+values16 = 65536
+
+abbrev pub values32 : ℕ
+values32 = 4294967296
 
 -- the held event that a slot's numbers are, each cut to the width of its field
 unfoldable pub entryOf : List ℕ → Entry
 entryOf w =
+    let at : ℕ → ℕ = λ place. getD w place 0 in
     record {
-      event = record {
-        id = record { value = getD w 0 0 };
-        program = getD w 1 0 % 256;
-        controls = getD w 2 0 % 4294967296;
-        created = getD w 3 0 % 4294967296;
-        start = getD w 4 0 % 4294967296;
-        duration = getD w 5 0 % 4294967296;
-        «randomize_start» = getD w 6 0 % 65536;
-        «randomize_duration» = getD w 7 0 % 65536;
-        «start_draw» = getD w 8 0 % 65536;
-        «duration_draw» = getD w 9 0 % 65536;
-      };
-      begins = getD w 10 0;
-      held = getD w 11 0 % 4294967296;
-      cancelled = eqb (getD w 12 0) 1;
+      event = eventOf (at idPlace) (at programPlace % values8) (at controlsPlace % values32) (at createdPlace % values32) (at startPlace % values32) (at durationPlace % values32)
+          (at randomizeStartPlace % values16) (at randomizeDurationPlace % values16) (at startDrawPlace % values16) (at durationDrawPlace % values16);
+      begins = at beginsPlace;
+      held = at heldPlace % values32;
+      cancelled = eqb (at cancelledPlace) 1;
     }
 
 abbrev pub headOf : Schedule → Head
 headOf s = record { clock = s .clock; count = s .count; programs = s .programs }
 
 -- what the rest of a schedule and the slots in use say
-abbrev pub stateOf : Head → List (List ℕ) → State
-stateOf d w = record { clock = d .clock; programs = d .programs; entries = map entryOf (take (d .count) w) }
+abbrev pub slotState : Head → List (List ℕ) → State
+slotState d w = record { clock = d .clock; programs = d .programs; entries = map entryOf (take (d .count) w) }
 
 abbrev pub scheduleOf : Head → List (List ℕ) → Schedule
-scheduleOf d w = pad (stateOf d w)
+scheduleOf d w = pad (slotState d w)
+
+-- n of the slots are in use
+pub record InUse (n : ℕ) (w : List (List ℕ)) : Type 0 where
+  pub few : n ≤ mostEvents
+  pub size : length w ≡ mostEvents
+
+-- a schedule whose events can be put into the slots
+pub record CanTake (s : Schedule) (w : List (List ℕ)) : Type 0 where
+  pub good : sound s ≡ true
+  pub size : length w ≡ mostEvents
 
 -- the slots have the events of a schedule
-pub record Apart (s : Schedule) (w : List (List ℕ)) : Type 0 where
+pub record TakenApart (s : Schedule) (w : List (List ℕ)) : Type 0 where
   pub size : length w ≡ mostEvents
   pub same : scheduleOf (headOf s) w ≡ s
 
 -- slots that a call can be made on
 pub record Ready (d : Head) (w : List (List ℕ)) : Type 0 where
-  pub size : length w ≡ mostEvents
-  pub count : d .count ≤ mostEvents
+  pub used : InUse (d .count) w
   pub good : sound (scheduleOf d w) ≡ true
+
+-- and a buffer that all rows fit
+pub record Lent (d : Head) (w : List (List ℕ)) (rows : List ℕ) : Type 0 where
+  pub ready : Ready d w
+  pub long : length rows ≡ rowsSize

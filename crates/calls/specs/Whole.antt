@@ -33,8 +33,8 @@ abbrev pub Ended : List ℕ → Type 0
 Ended t = lastByte 10 t ≡ 10
 
 -- what is written for a text and all that follows it: first for the lines of the text that have ended, then, from the schedule `next` on, for the bytes `left` and all that follows
-abbrev pub GoesOn : Schedule → List ℕ → Schedule → List ℕ → Type 0
-GoesOn s t next left = (after : List ℕ) → tellAll s (linesOf (t ++ after)) ≡ tellAll s (endedOf t) ++ tellAll next (linesOf (left ++ after))
+abbrev pub TextGoesOn : Schedule → List ℕ → Schedule → List ℕ → Type 0
+TextGoesOn s t next left = (after : List ℕ) → tellAll s (linesOf (t ++ after)) ≡ tellAll s (endedOf t) ++ tellAll next (linesOf (left ++ after))
 
 -- one run of a host: the bytes that came in since the last, and the buffer that is lent
 pub record Turn : Type 0 where

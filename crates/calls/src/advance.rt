@@ -3,43 +3,53 @@ ghost use mathlib.Core.Path.{_≡_};
 ghost use Prim.Native.Nat.{_≤_};
 ghost use lib.ListN.{length};
 ghost use Rattle.rules.specs.Records.{mostEvents, lastClock};
+ghost use Rattle.rules.specs.Bytes.{rowsSize};
 ghost use Rattle.calls.specs.Slots.{scheduleOf, Ready};
-ghost use Rattle.calls.specs.Columns.{Running};
+ghost use Rattle.calls.specs.Columns.{Uncancelled};
 ghost use Rattle.calls.specs.Live.{slotsAt, Placed};
 ghost use Rattle.calls.specs.Advanced.{Passes, Advances};
 use crate::clock;
 use crate::finish;
 use crate::held::Head;
+use crate::held::Masks;
+use crate::held::Places;
+use crate::held::RowCodes;
+use crate::held::Rows;
+use crate::held::Slots;
+use crate::held::Times;
 use crate::live;
 use crate::settle;
+use rules::Schedule;
 
 pub(crate) struct Passed {
     pub(crate) head: Head,
     pub(crate) rows: usize,
 }
 
-// All moments up to a reading at which one of the events at the places begins or ends; `held` ends as the masks that they hold then. Returns how many rows there are.
+// All moments up to a reading at which one of the events at the places begins or ends; `held` ends as the masks that they hold then. Returns how many rows
+// there are.
 fn moments(
     d: Head,
-    slots: &[[u64; 13]; 48],
-    places: &[u8; 48],
+    slots: &Slots,
+    places: &Places,
     to: u64,
-    rows: &mut [u8; 1632],
-    held: &mut [u32; 48],
+    rows: &mut Rows,
+    held: &mut Masks,
 ) -> usize
-    requires { ⌜ (length (now slots) ≡ mostEvents) × Placed (d .count) (now places) × Ready d (slotsAt (now slots) (now places)) × Running (d .count) (slotsAt (now slots) (now places)) ⌝ }
-    requires { ⌜ (d .clock ≤ to) × (to ≤ lastClock) × (length (now rows) ≡ 1632) × (length (now held) ≡ 48) ⌝ }
+    requires { ⌜ (length (now slots) ≡ mostEvents) × Placed (d .count) (now places)
+        × Ready d (slotsAt (now slots) (now places)) × Uncancelled (d .count) (slotsAt (now slots) (now places)) ⌝ }
+    requires { ⌜ (d .clock ≤ to) × (to ≤ lastClock) × (length (now rows) ≡ rowsSize) × (length (now held) ≡ mostEvents) ⌝ }
     ensures { λ r. ⌜ Passes (scheduleOf d (slotsAt (now (slots .entry)) (now (places .entry)))) to (now (rows .exit)) r (now (held .exit)) ⌝ }
 {
     let n = d.count;
     let from = d.clock;
     let programs = d.programs;
-    let mut begins = [0u64; 48];
-    let mut ends = [0u64; 48];
-    let mut carried = [0u32; 48];
+    let mut begins: Times = [0; Schedule::EVENTS];
+    let mut ends: Times = [0; Schedule::EVENTS];
+    let mut carried: Masks = [0; Schedule::EVENTS];
     clock::columns_of(slots, places, n, &mut begins, &mut ends, &mut carried, held);
-    let mut kept = [0u32; 48];
-    let mut codes = [0u8; 48];
+    let mut kept: Masks = [0; Schedule::EVENTS];
+    let mut codes: RowCodes = [0; Schedule::EVENTS];
     let limit = to + 1;
     let mut t = clock::next_moment(from, limit, &begins, &ends, n);
     let mut at = 0;
@@ -55,22 +65,17 @@ fn moments(
 }
 
 // A reading: the moments of the events that are live up to it, their masks back into the slots, and what has ended dropped.
-pub(crate) fn advance(
-    mut d: Head,
-    slots: &mut [[u64; 13]; 48],
-    to: u64,
-    rows: &mut [u8; 1632],
-) -> Passed
+pub(crate) fn advance(mut d: Head, slots: &mut Slots, to: u64, rows: &mut Rows) -> Passed
     requires { ⌜ Ready d (now slots) ⌝ }
-    requires { ⌜ (d .clock ≤ to) × (to ≤ lastClock) × (length (now rows) ≡ 1632) ⌝ }
+    requires { ⌜ (d .clock ≤ to) × (to ≤ lastClock) × (length (now rows) ≡ rowsSize) ⌝ }
     ensures { λ r. ⌜ Advances d (now (slots .entry)) to (now (rows .exit)) r (now (slots .exit)) ⌝ }
 {
     let n = d.count;
-    let mut places = [0u8; 48];
+    let mut places: Places = [0; Schedule::EVENTS];
     let m = live::pick(d.clock, to, slots, n, &mut places);
     let mut part = d;
     part.count = m;
-    let mut held = [0u32; 48];
+    let mut held: Masks = [0; Schedule::EVENTS];
     let count = moments(part, slots, &places, to, rows, &mut held);
     live::give_back(slots, &places, m, &held);
     d.count = finish::finish(slots, n, to);

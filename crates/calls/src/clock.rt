@@ -1,28 +1,39 @@
-// A moment, over columns of plain numbers: what the events at the first n places have. Nothing is dropped on the way: an event that has ended claims nothing and gives no
-// row, so it is enough to drop it after the last moment. None of these events is cancelled.
+// A moment, over columns of plain numbers: what the events at the first n places have. Nothing is dropped on the way: an event that has ended claims nothing
+// and gives no row, so it is enough to drop it after the last moment. None of these events is cancelled.
 ghost use mathlib.Core.Path.{_≡_};
-ghost use Prim.Native.Nat.{_+_, _≤_, _<_, min};
+ghost use Prim.Native.Nat.{_+_, _≤_, _<_};
 ghost use lib.ListN.{length};
-ghost use Rattle.rules.specs.Records.{has};
-ghost use Rattle.rules.specs.Bytes.{big};
-ghost use Rattle.calls.specs.Columns.{idsOf, claimOf, codeOf, Dated, Claims, Codes, Gives, nearest, nextOf, rowIf, codedRows, momentRows, Put, Written};
+ghost use Rattle.rules.specs.Records.{mostEvents, mostRows, idNumber, mostControls};
+ghost use Rattle.rules.specs.Bytes.{rowsSize};
+ghost use Rattle.calls.specs.Columns.{idsOf, claimOf, codeOf, MomentColumns, Claims, Codes, Gives, nearest, nextOf};
+ghost use Rattle.calls.specs.Columns.{rowIf, codedRows, momentRows, Written};
 ghost use Rattle.calls.specs.Live.{slotsAt, Placed};
 ghost use Rattle.calls.specs.Settled.{Contested};
 use crate::held;
+use crate::held::Masks;
+use crate::held::Places;
+use crate::held::RowCodes;
+use crate::held::Rows;
+use crate::held::Slots;
+use crate::held::Times;
 use crate::settle;
+use rules::Id;
+use rules::times;
 
 // What a moment looks at of each of the events at the first n places: effective start and end, the controls that it carries, held mask.
 pub(crate) fn columns_of(
-    slots: &[[u64; 13]; 48],
-    places: &[u8; 48],
+    slots: &Slots,
+    places: &Places,
     n: usize,
-    begins: &mut [u64; 48],
-    ends: &mut [u64; 48],
-    carried: &mut [u32; 48],
-    held: &mut [u32; 48],
+    begins: &mut Times,
+    ends: &mut Times,
+    carried: &mut Masks,
+    held: &mut Masks,
 )
-    requires { ⌜ (n ≤ 48) × (length (now slots) ≡ 48) × Placed n (now places) × (length (now begins) ≡ 48) × (length (now ends) ≡ 48) × (length (now carried) ≡ 48) × (length (now held) ≡ 48) ⌝ }
-    ensures { λ _. ⌜ Dated n (slotsAt (now (slots .entry)) (now (places .entry))) (now (begins .exit)) (now (ends .exit)) (now (carried .exit)) (now (held .exit)) ⌝ }
+    requires { ⌜ (n ≤ mostEvents) × (length (now slots) ≡ mostEvents) × Placed n (now places)
+        × (length (now begins) ≡ mostEvents) × (length (now ends) ≡ mostEvents) × (length (now carried) ≡ mostEvents) × (length (now held) ≡ mostEvents) ⌝ }
+    ensures { λ _. ⌜ MomentColumns n (slotsAt (now (slots .entry)) (now (places .entry)))
+        (now (begins .exit)) (now (ends .exit)) (now (carried .exit)) (now (held .exit)) ⌝ }
 {
     let mut i = 0;
     while i < n {
@@ -93,16 +104,6 @@ fn nearer(clock: u64, x: u64, best: u64) -> u64
     best
 }
 
-// The sooner of two moments.
-fn sooner(a: u64, b: u64) -> u64
-    ensures { λ r. ⌜ r ≡ min a b ⌝ }
-{
-    if b < a {
-        return b;
-    }
-    a
-}
-
 // The next moment after the clock at which an event begins or ends, `limit` if there is none before it.
 fn own_next(clock: u64, limit: u64, begins: u64, end: u64) -> u64
     ensures { λ r. ⌜ r ≡ nearest clock begins (nearest clock end limit) ⌝ }
@@ -111,20 +112,14 @@ fn own_next(clock: u64, limit: u64, begins: u64, end: u64) -> u64
 }
 
 // The same of the first n. Each event's own is found first, so that no event waits for the one before it.
-pub(crate) fn next_moment(
-    clock: u64,
-    limit: u64,
-    begins: &[u64; 48],
-    ends: &[u64; 48],
-    n: usize,
-) -> u64
-    requires { ⌜ n ≤ 48 ⌝ }
+pub(crate) fn next_moment(clock: u64, limit: u64, begins: &Times, ends: &Times, n: usize) -> u64
+    requires { ⌜ n ≤ mostEvents ⌝ }
     ensures { λ r. ⌜ r ≡ nextOf clock limit n (now (begins .entry)) (now (ends .entry)) ⌝ }
 {
     let mut next = limit;
     let mut i = 0;
     while i < n {
-        next = sooner(next, own_next(clock, limit, begins[i], ends[i]));
+        next = times::earlier(next, own_next(clock, limit, begins[i], ends[i]));
         i += 1;
     }
     next
@@ -140,14 +135,14 @@ pub(crate) struct Claimed {
 pub(crate) fn claims_at(
     t: u64,
     limit: u64,
-    begins: &[u64; 48],
-    ends: &[u64; 48],
-    carried: &[u32; 48],
-    held: &[u32; 48],
+    begins: &Times,
+    ends: &Times,
+    carried: &Masks,
+    held: &Masks,
     n: usize,
-    claims: &mut [u32; 48],
+    claims: &mut Masks,
 ) -> Claimed
-    requires { ⌜ (n ≤ 48) × (length (now claims) ≡ 48) ⌝ }
+    requires { ⌜ (n ≤ mostEvents) × (length (now claims) ≡ mostEvents) ⌝ }
     ensures { λ r. ⌜ Claims t n (now (begins .entry)) (now (ends .entry)) (now (carried .entry)) (now (held .entry)) (now (claims .exit))
         × Contested (now (claims .exit)) n (r .shared) × (r .next ≡ nextOf t limit n (now (begins .entry)) (now (ends .entry))) ⌝ }
 {
@@ -160,7 +155,7 @@ pub(crate) fn claims_at(
         claims[i] = m;
         shared |= seen & m;
         seen |= m;
-        next = sooner(next, own_next(t, limit, begins[i], ends[i]));
+        next = times::earlier(next, own_next(t, limit, begins[i], ends[i]));
         i += 1;
     }
     Claimed { shared, next }
@@ -169,15 +164,16 @@ pub(crate) fn claims_at(
 // The code that each of the first n gives at moment t; the set of the codes given.
 pub(crate) fn codes_at(
     t: u64,
-    begins: &[u64; 48],
-    ends: &[u64; 48],
-    held: &[u32; 48],
-    kept: &[u32; 48],
+    begins: &Times,
+    ends: &Times,
+    held: &Masks,
+    kept: &Masks,
     n: usize,
-    codes: &mut [u8; 48],
+    codes: &mut RowCodes,
 ) -> u32
-    requires { ⌜ (n ≤ 48) × (length (now codes) ≡ 48) ⌝ }
-    ensures { λ r. ⌜ Codes t n (now (begins .entry)) (now (ends .entry)) (now (held .entry)) (now (kept .entry)) (now (codes .exit)) × Gives n (now (codes .exit)) r ⌝ }
+    requires { ⌜ (n ≤ mostEvents) × (length (now codes) ≡ mostEvents) ⌝ }
+    ensures { λ r. ⌜ Codes t n (now (begins .entry)) (now (ends .entry)) (now (held .entry)) (now (kept .entry)) (now (codes .exit))
+        × Gives n (now (codes .exit)) r ⌝ }
 {
     let mut given = 0;
     let mut i = 0;
@@ -190,39 +186,22 @@ pub(crate) fn codes_at(
     given
 }
 
-// The eight bytes of a number, most significant first, from `at` on.
-pub(crate) fn put8(rows: &mut [u8; 1632], at: usize, x: u64)
-    requires { ⌜ (at + 8 ≤ 1632) × (length (now rows) ≡ 1632) ⌝ }
-    ensures { λ _. ⌜ Put (now (rows .entry)) at (big 8 x) (now (rows .exit)) ⌝ }
-{
-    let x1 = x / 256;
-    let x2 = x1 / 256;
-    let x3 = x2 / 256;
-    let x4 = x3 / 256;
-    let x5 = x4 / 256;
-    let x6 = x5 / 256;
-    let x7 = x6 / 256;
-    rows[at] = (x7 % 256) as u8;
-    rows[at + 1] = (x6 % 256) as u8;
-    rows[at + 2] = (x5 % 256) as u8;
-    rows[at + 3] = (x4 % 256) as u8;
-    rows[at + 4] = (x3 % 256) as u8;
-    rows[at + 5] = (x2 % 256) as u8;
-    rows[at + 6] = (x1 % 256) as u8;
-    rows[at + 7] = (x % 256) as u8;
-}
+// The places of the id and of the code in a row.
+const ID_AT: usize = 8;
+
+const CODE_AT: usize = ID_AT + Id::SIZE;
 
 // A row behind the first `at`, if the code is k.
-pub(crate) fn add_row(rows: &mut [u8; 1632], at: usize, t: u64, id: u64, code: u8, k: u8) -> usize
-    requires { ⌜ length (now rows) ≡ 1632 ⌝ }
-    requires { ⌜ at + length (rowIf t k id code) ≤ 96 ⌝ }
-    ensures { λ r. ⌜ Written (now (rows .entry)) at (now (rows .exit)) r (rowIf t k id code) ⌝ }
+pub(crate) fn add_row(rows: &mut Rows, at: usize, t: u64, id: Id, code: u8, k: u8) -> usize
+    requires { ⌜ length (now rows) ≡ rowsSize ⌝ }
+    requires { ⌜ at + length (rowIf t k (idNumber id) code) ≤ mostRows ⌝ }
+    ensures { λ r. ⌜ Written (now (rows .entry)) at (now (rows .exit)) r (rowIf t k (idNumber id) code) ⌝ }
 {
     if code == k {
-        let b = at * 17;
-        put8(rows, b, t);
-        put8(rows, b + 8, id);
-        rows[b + 16] = k;
+        let b = at * rules::ROW_SIZE;
+        octets::put8(rows, b, t);
+        octets::put_id(rows, b + ID_AT, id);
+        rows[b + CODE_AT] = k;
         return at + 1;
     }
     at
@@ -230,23 +209,31 @@ pub(crate) fn add_row(rows: &mut [u8; 1632], at: usize, t: u64, id: u64, code: u
 
 // The rows of those at the first n places that give the code k.
 pub(crate) fn rows_with(
-    rows: &mut [u8; 1632],
+    rows: &mut Rows,
     from: usize,
     t: u64,
-    slots: &[[u64; 13]; 48],
-    places: &[u8; 48],
-    codes: &[u8; 48],
+    slots: &Slots,
+    places: &Places,
+    codes: &RowCodes,
     n: usize,
     k: u8,
 ) -> usize
-    requires { ⌜ (n ≤ 48) × (length (now rows) ≡ 1632) × (length (now slots) ≡ 48) × Placed n (now places) ⌝ }
-    requires { ⌜ from + length (codedRows t k n (idsOf (slotsAt (now slots) (now places))) (now codes)) ≤ 96 ⌝ }
-    ensures { λ r. ⌜ Written (now (rows .entry)) from (now (rows .exit)) r (codedRows t k n (idsOf (slotsAt (now (slots .entry)) (now (places .entry)))) (now (codes .entry))) ⌝ }
+    requires { ⌜ (n ≤ mostEvents) × (length (now rows) ≡ rowsSize) × (length (now slots) ≡ mostEvents) × Placed n (now places) ⌝ }
+    requires { ⌜ from + length (codedRows t k n (idsOf (slotsAt (now slots) (now places))) (now codes)) ≤ mostRows ⌝ }
+    ensures { λ r. ⌜ Written (now (rows .entry)) from (now (rows .exit)) r
+        (codedRows t k n (idsOf (slotsAt (now (slots .entry)) (now (places .entry)))) (now (codes .entry))) ⌝ }
 {
     let mut at = from;
     let mut i = 0;
     while i < n {
-        at = add_row(rows, at, t, slots[places[i] as usize][0], codes[i], k);
+        at = add_row(
+            rows,
+            at,
+            t,
+            held::id_at(slots, places[i] as usize),
+            codes[i],
+            k,
+        );
         i += 1;
     }
     at
@@ -254,19 +241,21 @@ pub(crate) fn rows_with(
 
 // The same, if the code k is among those given.
 fn rows_if(
-    rows: &mut [u8; 1632],
+    rows: &mut Rows,
     from: usize,
     t: u64,
-    slots: &[[u64; 13]; 48],
-    places: &[u8; 48],
-    codes: &[u8; 48],
+    slots: &Slots,
+    places: &Places,
+    codes: &RowCodes,
     n: usize,
     k: u8,
     given: u32,
 ) -> usize
-    requires { ⌜ (n ≤ 48) × (length (now rows) ≡ 1632) × (length (now slots) ≡ 48) × Placed n (now places) × (k < 32) × Gives n (now codes) given ⌝ }
-    requires { ⌜ from + length (codedRows t k n (idsOf (slotsAt (now slots) (now places))) (now codes)) ≤ 96 ⌝ }
-    ensures { λ r. ⌜ Written (now (rows .entry)) from (now (rows .exit)) r (codedRows t k n (idsOf (slotsAt (now (slots .entry)) (now (places .entry)))) (now (codes .entry))) ⌝ }
+    requires { ⌜ (n ≤ mostEvents) × (length (now rows) ≡ rowsSize) × (length (now slots) ≡ mostEvents) × Placed n (now places)
+        × (k < mostControls) × Gives n (now codes) given ⌝ }
+    requires { ⌜ from + length (codedRows t k n (idsOf (slotsAt (now slots) (now places))) (now codes)) ≤ mostRows ⌝ }
+    ensures { λ r. ⌜ Written (now (rows .entry)) from (now (rows .exit)) r
+        (codedRows t k n (idsOf (slotsAt (now (slots .entry)) (now (places .entry)))) (now (codes .entry))) ⌝ }
 {
     if settle::is_in(given, k as u32) {
         return rows_with(rows, from, t, slots, places, codes, n, k);
@@ -276,18 +265,19 @@ fn rows_if(
 
 // The rows of a moment: ends, superseded ones, starts.
 pub(crate) fn rows_at(
-    rows: &mut [u8; 1632],
+    rows: &mut Rows,
     from: usize,
     t: u64,
-    slots: &[[u64; 13]; 48],
-    places: &[u8; 48],
-    codes: &[u8; 48],
+    slots: &Slots,
+    places: &Places,
+    codes: &RowCodes,
     n: usize,
     given: u32,
 ) -> usize
-    requires { ⌜ (n ≤ 48) × (length (now rows) ≡ 1632) × (length (now slots) ≡ 48) × Placed n (now places) × Gives n (now codes) given ⌝ }
-    requires { ⌜ from + length (momentRows t n (idsOf (slotsAt (now slots) (now places))) (now codes)) ≤ 96 ⌝ }
-    ensures { λ r. ⌜ Written (now (rows .entry)) from (now (rows .exit)) r (momentRows t n (idsOf (slotsAt (now (slots .entry)) (now (places .entry)))) (now (codes .entry))) ⌝ }
+    requires { ⌜ (n ≤ mostEvents) × (length (now rows) ≡ rowsSize) × (length (now slots) ≡ mostEvents) × Placed n (now places) × Gives n (now codes) given ⌝ }
+    requires { ⌜ from + length (momentRows t n (idsOf (slotsAt (now slots) (now places))) (now codes)) ≤ mostRows ⌝ }
+    ensures { λ r. ⌜ Written (now (rows .entry)) from (now (rows .exit)) r
+        (momentRows t n (idsOf (slotsAt (now (slots .entry)) (now (places .entry)))) (now (codes .entry))) ⌝ }
 {
     let a = rows_if(rows, from, t, slots, places, codes, n, 3, given);
     let b = rows_if(rows, a, t, slots, places, codes, n, 7, given);

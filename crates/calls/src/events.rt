@@ -1,21 +1,24 @@
 // Events delivered and cancelled: the place of an id among the slots, the tests in checking order, and the event stored there.
 ghost use mathlib.Core.Path.{_≡_};
-ghost use mathlib.Core.List.{[], _∷_, _++_, map};
-ghost use Prim.Native.Nat.{_+_, _≤_, _<_};
-ghost use lib.ListN.{length, take, drop};
-ghost use Rattle.rules.specs.Records.{mostEvents, lastClock, idOf};
+ghost use mathlib.Core.List.{[], map};
+ghost use Prim.Native.Nat.{_≤_};
+ghost use lib.ListN.{take};
+ghost use Rattle.rules.specs.Records.{lastClock, idNumber, idOf};
 ghost use Rattle.rules.specs.Refusals.{late, firstOf};
 ghost use Rattle.rules.specs.Calls.{call, deliver, cancel, checks};
-ghost use Rattle.calls.specs.Slots.{entryOf, stateOf, scheduleOf, Ready};
+ghost use Rattle.calls.specs.Slots.{entryOf, slotState, scheduleOf, InUse, Ready};
 ghost use Rattle.calls.specs.Answered.{Acts};
-ghost use Rattle.calls.specs.Found.{Placed, Found};
+ghost use Rattle.calls.specs.Found.{PlaceOf, Found, FoundIn, CanOpen, widened};
 use crate::Acted;
 use crate::held;
 use crate::held::Head;
+use crate::held::Slot;
+use crate::held::Slots;
 use rules::Answer;
 use rules::Entry;
 use rules::Event;
 use rules::Id;
+use rules::Program;
 use rules::Schedule;
 
 // Where an id stands among the slots or would stand, and whether it is held.
@@ -25,13 +28,13 @@ struct Place {
 }
 
 // How many of the first n slots have a smaller id.
-fn below(slots: &[[u64; 13]; 48], n: usize, id: u64) -> usize
-    requires { ⌜ (n ≤ mostEvents) × (length (now slots) ≡ mostEvents) ⌝ }
-    ensures { λ r. ⌜ Placed (map entryOf (take n (now (slots .entry)))) id r ⌝ }
+fn below(slots: &Slots, n: usize, id: Id) -> usize
+    requires { ⌜ InUse n (now slots) ⌝ }
+    ensures { λ r. ⌜ PlaceOf (map entryOf (take n (now (slots .entry)))) (idNumber id) r ⌝ }
 {
     let mut i = 0;
     while i < n {
-        if id <= slots[i][0] {
+        if !held::id_at(slots, i).is_below(id) {
             return i;
         }
         i += 1;
@@ -40,9 +43,9 @@ fn below(slots: &[[u64; 13]; 48], n: usize, id: u64) -> usize
 }
 
 // The slots in use stand by ascending id, so none but the first that is not smaller can bear it.
-fn place_of(d: Head, slots: &[[u64; 13]; 48], id: u64) -> Place
+fn place_of(d: Head, slots: &Slots, id: Id) -> Place
     requires { ⌜ Ready d (now slots) ⌝ }
-    ensures { λ r. ⌜ Found (stateOf d (now (slots .entry)) .entries) id r ⌝ }
+    ensures { λ r. ⌜ Found (slotState d (now (slots .entry)) .entries) (idNumber id) r ⌝ }
 {
     let n = d.count;
     let at = below(slots, n, id);
@@ -51,7 +54,7 @@ fn place_of(d: Head, slots: &[[u64; 13]; 48], id: u64) -> Place
     }
     Place {
         at,
-        held: slots[at][0] == id,
+        held: held::id_at(slots, at).equals(id),
     }
 }
 
@@ -65,12 +68,11 @@ fn is_late(e: Event, clock: u64) -> bool
 }
 
 // Numbers given, of a delivery in checking order, 0 for none.
-fn number(d: Head, slots: &[[u64; 13]; 48], e: Event, p: Place) -> u8
-    requires { ⌜ Ready d (now slots) ⌝ }
-    requires { ⌜ Found (stateOf d (now slots) .entries) (idOf e) p ⌝ }
-    ensures { λ r. ⌜ r ≡ firstOf (checks (stateOf d (now (slots .entry))) (deliver e)) ⌝ }
+fn number(d: Head, slots: &Slots, e: Event, p: Place) -> u8
+    requires { ⌜ FoundIn d (now slots) (idOf e) p ⌝ }
+    ensures { λ r. ⌜ r ≡ firstOf (checks (slotState d (now (slots .entry))) (deliver e)) ⌝ }
 {
-    if 7 < e.program {
+    if Program::LAST < e.program {
         return 3;
     }
     let program = e.program as usize;
@@ -100,9 +102,9 @@ fn number(d: Head, slots: &[[u64; 13]; 48], e: Event, p: Place) -> u8
 }
 
 // The slots from `at` on move up by one, and `slot` comes there.
-fn put_in(slots: &mut [[u64; 13]; 48], n: usize, at: usize, slot: [u64; 13])
-    requires { ⌜ (at ≤ n) × (n < mostEvents) × (length (now slots) ≡ mostEvents) ⌝ }
-    ensures { λ _. ⌜ now (slots .exit) ≡ take at (now (slots .entry)) ++ (slot ∷ drop at (take n (now (slots .entry)))) ++ drop (n + 1) (now (slots .entry)) ⌝ }
+fn put_in(slots: &mut Slots, n: usize, at: usize, slot: Slot)
+    requires { ⌜ CanOpen at n (now slots) ⌝ }
+    ensures { λ _. ⌜ now (slots .exit) ≡ widened (now (slots .entry)) n at slot ⌝ }
 {
     let mut j = n;
     while at < j {
@@ -113,11 +115,11 @@ fn put_in(slots: &mut [[u64; 13]; 48], n: usize, at: usize, slot: [u64; 13])
 }
 
 // Calls, deliver an event. One that is held already changes nothing.
-pub(crate) fn deliver(mut d: Head, slots: &mut [[u64; 13]; 48], e: Event) -> Acted
+pub(crate) fn deliver(mut d: Head, slots: &mut Slots, e: Event) -> Acted
     requires { ⌜ Ready d (now slots) ⌝ }
     ensures { λ r. ⌜ Acts r (now (slots .exit)) [] (call (scheduleOf d (now (slots .entry))) (deliver e)) ⌝ }
 {
-    let p = place_of(d, slots, e.id.value);
+    let p = place_of(d, slots, e.id);
     let k = number(d, slots, e, p);
     if k != 0 {
         return Acted {
@@ -147,11 +149,11 @@ pub(crate) fn deliver(mut d: Head, slots: &mut [[u64; 13]; 48], e: Event) -> Act
 }
 
 // Calls, cancel: the mark is set, and nothing is held any more. Twice changes nothing.
-pub(crate) fn cancel(d: Head, slots: &mut [[u64; 13]; 48], id: Id) -> Acted
+pub(crate) fn cancel(d: Head, slots: &mut Slots, id: Id) -> Acted
     requires { ⌜ Ready d (now slots) ⌝ }
-    ensures { λ r. ⌜ Acts r (now (slots .exit)) [] (call (scheduleOf d (now (slots .entry))) (cancel (id .value))) ⌝ }
+    ensures { λ r. ⌜ Acts r (now (slots .exit)) [] (call (scheduleOf d (now (slots .entry))) (cancel (idNumber id))) ⌝ }
 {
-    let p = place_of(d, slots, id.value);
+    let p = place_of(d, slots, id);
     if !p.held {
         return Acted {
             answer: Answer::Refused(11),

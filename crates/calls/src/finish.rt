@@ -1,14 +1,12 @@
 // After the last moment: what has ended is dropped.
-ghost use mathlib.Core.Path.{_≡_};
-ghost use Prim.Native.Nat.{_≤_};
-ghost use lib.ListN.{length};
-ghost use Rattle.rules.specs.Records.{mostEvents};
+ghost use Rattle.calls.specs.Slots.{InUse};
 ghost use Rattle.calls.specs.Finished.{Finished};
 use crate::held;
+use crate::held::Slots;
 
 // The events that end after the reading come to the front; how many they are. Most stay where they are.
-pub(crate) fn finish(slots: &mut [[u64; 13]; 48], n: usize, to: u64) -> usize
-    requires { ⌜ (n ≤ mostEvents) × (length (now slots) ≡ mostEvents) ⌝ }
+pub(crate) fn finish(slots: &mut Slots, n: usize, to: u64) -> usize
+    requires { ⌜ InUse n (now slots) ⌝ }
     ensures { λ r. ⌜ Finished to n (now (slots .entry)) (now (slots .exit)) r ⌝ }
 {
     let mut k = 0;

@@ -1,25 +1,84 @@
-// The held events in slots. A slot is thirteen plain numbers, so that all events can be lent in one array and changed in place: a schedule by value would be
-// copied at each step. The rest of a schedule is small and goes by value.
+// The held events in slots. A slot is an event as plain numbers, so that all events can be lent in one array and changed in place: a schedule by value would be
+// copied at each step. The rest of a schedule is small and goes by value. No other file knows where in a slot a field lies.
 ghost use mathlib.Core.Path.{_≡_};
-ghost use mathlib.Core.Bool.{true, cond};
-ghost use Prim.Native.Nat.{_≤_};
-ghost use lib.ListN.{length};
+ghost use mathlib.Core.Bool.{cond};
+ghost use mathlib.Core.List.{[]};
+ghost use Prim.Native.Nat.{_<_};
+ghost use lib.ListN.{getD};
 ghost use Rattle.rules.specs.Records.{mostEvents};
-ghost use Rattle.rules.specs.Sound.{sound};
 ghost use Rattle.rules.specs.Holding.{withHolding};
-ghost use Rattle.calls.specs.Slots.{entryOf, headOf, scheduleOf, Apart};
+ghost use Rattle.calls.specs.Slots.{entryOf, headOf, scheduleOf, InUse, CanTake, TakenApart};
 use rules::Entry;
 use rules::Event;
 use rules::Id;
 use rules::Program;
 use rules::Schedule;
 
+// The places of the numbers in a slot: the fields in document 01's order, then effective start, held mask, and 1 if the event is cancelled.
+const ID: usize = 0;
+
+const PROGRAM: usize = ID + 1;
+
+const CONTROLS: usize = PROGRAM + 1;
+
+const CREATED: usize = CONTROLS + 1;
+
+const START: usize = CREATED + 1;
+
+const DURATION: usize = START + 1;
+
+const RANDOMIZE_START: usize = DURATION + 1;
+
+const RANDOMIZE_DURATION: usize = RANDOMIZE_START + 1;
+
+const START_DRAW: usize = RANDOMIZE_DURATION + 1;
+
+const DURATION_DRAW: usize = START_DRAW + 1;
+
+const BEGINS: usize = DURATION_DRAW + 1;
+
+const HELD: usize = BEGINS + 1;
+
+const CANCELLED: usize = HELD + 1;
+
+const SLOT_SIZE: usize = CANCELLED + 1;
+
+// How many values a field of 8, 16 or 32 bits has.
+const VALUES8: u64 = 0x100;
+
+const VALUES16: u64 = 0x1_0000;
+
+const VALUES32: u64 = 0x1_0000_0000;
+
+pub(crate) type Slot = [u64; SLOT_SIZE];
+
+pub(crate) type Slots = [Slot; Schedule::EVENTS];
+
+// Slots that no event has been put into.
+pub(crate) const NO_SLOTS: Slots = [[0; SLOT_SIZE]; Schedule::EVENTS];
+
+// The bytes of rows, as many as a clock call can give.
+pub(crate) type Rows = [u8; rules::ROWS_SIZE];
+
+pub(crate) const NO_ROWS: Rows = [0; rules::ROWS_SIZE];
+
+// A number for each of some events: times, masks, places of slots, response codes.
+pub(crate) type Times = [u64; Schedule::EVENTS];
+
+pub(crate) type Masks = [u32; Schedule::EVENTS];
+
+pub(crate) type Places = [u8; Schedule::EVENTS];
+
+pub(crate) type RowCodes = [u8; Schedule::EVENTS];
+
 // What a schedule has besides its events.
 pub(crate) struct Head {
     pub(crate) clock: u64,
     pub(crate) count: usize,
-    pub(crate) programs: [Program; 8],
+    pub(crate) programs: Programs,
 }
+
+pub(crate) type Programs = [Program; Schedule::PROGRAMS];
 
 fn mark(cancelled: bool) -> u64
     ensures { λ r. ⌜ r ≡ cond cancelled 1 0 ⌝ }
@@ -30,57 +89,99 @@ fn mark(cancelled: bool) -> u64
     0
 }
 
-// The fields in document 01's order, then effective start, held mask, and 1 if the event is cancelled.
-pub(crate) fn slot_of(h: Entry) -> [u64; 13]
+// The numbers of an event, in the order of their places.
+pub(crate) fn slot_of(h: Entry) -> Slot
     ensures { λ r. ⌜ entryOf r ≡ h ⌝ }
 {
-    let e = h.event;
     [
-        e.id.value,
-        e.program as u64,
-        e.controls as u64,
-        e.created as u64,
-        e.start as u64,
-        e.duration as u64,
-        e.randomize_start as u64,
-        e.randomize_duration as u64,
-        e.start_draw as u64,
-        e.duration_draw as u64,
+        h.event.id.number(),
+        h.event.program as u64,
+        h.event.controls as u64,
+        h.event.created as u64,
+        h.event.start as u64,
+        h.event.duration as u64,
+        h.event.randomize_start as u64,
+        h.event.randomize_duration as u64,
+        h.event.start_draw as u64,
+        h.event.duration_draw as u64,
         h.begins,
         h.held as u64,
         mark(h.cancelled),
     ]
 }
 
-pub(crate) fn entry_of(slot: [u64; 13]) -> Entry
+pub(crate) fn entry_of(slot: Slot) -> Entry
     ensures { λ r. ⌜ r ≡ entryOf slot ⌝ }
 {
     let event = Event {
-        id: Id { value: slot[0] },
-        program: (slot[1] % 0x100) as u8,
-        controls: (slot[2] % 0x1_0000_0000) as u32,
-        created: (slot[3] % 0x1_0000_0000) as u32,
-        start: (slot[4] % 0x1_0000_0000) as u32,
-        duration: (slot[5] % 0x1_0000_0000) as u32,
-        randomize_start: (slot[6] % 0x1_0000) as u16,
-        randomize_duration: (slot[7] % 0x1_0000) as u16,
-        start_draw: (slot[8] % 0x1_0000) as u16,
-        duration_draw: (slot[9] % 0x1_0000) as u16,
+        id: Id::of(slot[ID]),
+        program: (slot[PROGRAM] % VALUES8) as u8,
+        controls: (slot[CONTROLS] % VALUES32) as u32,
+        created: (slot[CREATED] % VALUES32) as u32,
+        start: (slot[START] % VALUES32) as u32,
+        duration: (slot[DURATION] % VALUES32) as u32,
+        randomize_start: (slot[RANDOMIZE_START] % VALUES16) as u16,
+        randomize_duration: (slot[RANDOMIZE_DURATION] % VALUES16) as u16,
+        start_draw: (slot[START_DRAW] % VALUES16) as u16,
+        duration_draw: (slot[DURATION_DRAW] % VALUES16) as u16,
     };
     Entry {
         event,
-        begins: slot[10],
-        held: (slot[11] % 0x1_0000_0000) as u32,
-        cancelled: slot[12] == 1,
+        begins: slot[BEGINS],
+        held: (slot[HELD] % VALUES32) as u32,
+        cancelled: slot[CANCELLED] == 1,
     }
 }
 
 // The event in a slot with another held mask.
-pub(crate) fn with_mask(mut slot: [u64; 13], held: u32) -> [u64; 13]
+pub(crate) fn with_mask(mut slot: Slot, held: u32) -> Slot
     ensures { λ r. ⌜ entryOf r ≡ withHolding (entryOf slot) (record { held = held }) ⌝ }
 {
-    slot[11] = held as u64;
+    slot[HELD] = held as u64;
     slot
+}
+
+// Single fields of the event in slot i.
+pub(crate) fn id_at(slots: &Slots, i: usize) -> Id
+    requires { ⌜ i < mostEvents ⌝ }
+    ensures { λ r. ⌜ r ≡ entryOf (getD (now (slots .entry)) i []) .event .id ⌝ }
+{
+    Id::of(slots[i][ID])
+}
+
+pub(crate) fn program_at(slots: &Slots, i: usize) -> u8
+    requires { ⌜ i < mostEvents ⌝ }
+    ensures { λ r. ⌜ r ≡ entryOf (getD (now (slots .entry)) i []) .event .program ⌝ }
+{
+    (slots[i][PROGRAM] % VALUES8) as u8
+}
+
+pub(crate) fn created_at(slots: &Slots, i: usize) -> u32
+    requires { ⌜ i < mostEvents ⌝ }
+    ensures { λ r. ⌜ r ≡ entryOf (getD (now (slots .entry)) i []) .event .created ⌝ }
+{
+    (slots[i][CREATED] % VALUES32) as u32
+}
+
+pub(crate) fn begins_at(slots: &Slots, i: usize) -> u64
+    requires { ⌜ i < mostEvents ⌝ }
+    ensures { λ r. ⌜ r ≡ entryOf (getD (now (slots .entry)) i []) .begins ⌝ }
+{
+    slots[i][BEGINS]
+}
+
+pub(crate) fn held_at(slots: &Slots, i: usize) -> u32
+    requires { ⌜ i < mostEvents ⌝ }
+    ensures { λ r. ⌜ r ≡ entryOf (getD (now (slots .entry)) i []) .held ⌝ }
+{
+    (slots[i][HELD] % VALUES32) as u32
+}
+
+pub(crate) fn is_cancelled_at(slots: &Slots, i: usize) -> bool
+    requires { ⌜ i < mostEvents ⌝ }
+    ensures { λ r. ⌜ r ≡ entryOf (getD (now (slots .entry)) i []) .cancelled ⌝ }
+{
+    slots[i][CANCELLED] == 1
 }
 
 pub(crate) fn head_of(s: Schedule) -> Head
@@ -95,10 +196,9 @@ pub(crate) fn head_of(s: Schedule) -> Head
 }
 
 // The events of a schedule into slots.
-pub(crate) fn take_apart(s: Schedule, slots: &mut [[u64; 13]; 48])
-    requires { ⌜ sound s ≡ true ⌝ }
-    requires { ⌜ length (now slots) ≡ mostEvents ⌝ }
-    ensures { λ _. ⌜ Apart s (now (slots .exit)) ⌝ }
+pub(crate) fn take_apart(s: Schedule, slots: &mut Slots)
+    requires { ⌜ CanTake s (now slots) ⌝ }
+    ensures { λ _. ⌜ TakenApart s (now (slots .exit)) ⌝ }
 {
     let n = s.count;
     let mut i = 0;
@@ -110,8 +210,8 @@ pub(crate) fn take_apart(s: Schedule, slots: &mut [[u64; 13]; 48])
 }
 
 // A schedule by value again.
-pub(crate) fn put_together(d: Head, slots: &[[u64; 13]; 48]) -> Schedule
-    requires { ⌜ (length (now slots) ≡ mostEvents) × (d .count ≤ mostEvents) ⌝ }
+pub(crate) fn put_together(d: Head, slots: &Slots) -> Schedule
+    requires { ⌜ InUse (d .count) (now slots) ⌝ }
     ensures { λ r. ⌜ r ≡ scheduleOf d (now (slots .entry)) ⌝ }
 {
     let none = Entry::none();

@@ -2,12 +2,10 @@
 // one equation with `call` of the definitions, refusals included: first 2 for a schedule that breaks a rule, then the call's own numbers in order.
 ghost use mathlib.Core.Path.{_≡_};
 ghost use mathlib.Core.List.{[]};
-ghost use Prim.Native.Nat.{_≤_};
-ghost use lib.ListN.{length};
-ghost use Rattle.rules.specs.Records.{mostEvents};
+ghost use Rattle.rules.specs.Records.{idNumber};
 ghost use Rattle.rules.specs.Calls.{call, addProgram, deliver, cancel, setClock, ask};
-ghost use Rattle.calls.specs.Slots.{scheduleOf};
-ghost use Rattle.calls.specs.Answered.{outcomeOf};
+ghost use Rattle.calls.specs.Slots.{InUse};
+ghost use Rattle.calls.specs.Answered.{outcomeOf, refusedWith, ByValue};
 ghost use Rattle.calls.specs.Lines.{lineOutcome, ranOf, runOutcome};
 ghost use Rattle.calls.specs.Whole.{WholeText};
 
@@ -48,10 +46,20 @@ pub struct Ran {
     pub schedule: Schedule,
 }
 
+// A call that was refused leaves the schedule as it is.
+pub(crate) fn refused(s: Schedule, number: u8) -> Answered
+    ensures { λ r. ⌜ r ≡ refusedWith number s ⌝ }
+{
+    Answered {
+        answer: Answer::Refused(number),
+        schedule: s,
+    }
+}
+
 // A schedule by value from what a call on slots left.
-fn by_value(a: Acted, slots: &[[u64; 13]; 48]) -> Answered
-    requires { ⌜ (length (now slots) ≡ mostEvents) × (a .head .count ≤ mostEvents) ⌝ }
-    ensures { λ r. ⌜ (r .answer ≡ a .answer) × (r .schedule ≡ scheduleOf (a .head) (now (slots .entry))) ⌝ }
+fn by_value(a: Acted, slots: &held::Slots) -> Answered
+    requires { ⌜ InUse (a .head .count) (now slots) ⌝ }
+    ensures { λ r. ⌜ ByValue a (now (slots .entry)) r ⌝ }
 {
     let answer = a.answer;
     let head = a.head;
@@ -66,12 +74,9 @@ pub fn add_program(s: Schedule, number: u8, primacy: u8, defaults: u32) -> Answe
     ensures { λ r. ⌜ outcomeOf r [] [] ≡ call s (addProgram number primacy defaults) ⌝ }
 {
     if !sound::is_sound(s) {
-        return Answered {
-            answer: Answer::Refused(2),
-            schedule: s,
-        };
+        return refused(s, 2);
     }
-    let mut slots = [[0u64; 13]; 48];
+    let mut slots = held::NO_SLOTS;
     held::take_apart(s, &mut slots);
     let done = programs::add_program(held::head_of(s), number, primacy, defaults);
     by_value(done, &slots)
@@ -82,12 +87,9 @@ pub fn deliver(s: Schedule, e: Event) -> Answered
     ensures { λ r. ⌜ outcomeOf r [] [] ≡ call s (deliver e) ⌝ }
 {
     if !sound::is_sound(s) {
-        return Answered {
-            answer: Answer::Refused(2),
-            schedule: s,
-        };
+        return refused(s, 2);
     }
-    let mut slots = [[0u64; 13]; 48];
+    let mut slots = held::NO_SLOTS;
     held::take_apart(s, &mut slots);
     let done = events::deliver(held::head_of(s), &mut slots, e);
     by_value(done, &slots)
@@ -95,15 +97,12 @@ pub fn deliver(s: Schedule, e: Event) -> Answered
 
 // Calls, cancel: code 6, or 0 if the event was cancelled before.
 pub fn cancel(s: Schedule, id: Id) -> Answered
-    ensures { λ r. ⌜ outcomeOf r [] [] ≡ call s (cancel (id .value)) ⌝ }
+    ensures { λ r. ⌜ outcomeOf r [] [] ≡ call s (cancel (idNumber id)) ⌝ }
 {
     if !sound::is_sound(s) {
-        return Answered {
-            answer: Answer::Refused(2),
-            schedule: s,
-        };
+        return refused(s, 2);
     }
-    let mut slots = [[0u64; 13]; 48];
+    let mut slots = held::NO_SLOTS;
     held::take_apart(s, &mut slots);
     let done = events::cancel(held::head_of(s), &mut slots, id);
     by_value(done, &slots)
@@ -116,10 +115,7 @@ pub fn set_clock(s: Schedule, reading: u64, buffer: &mut [u8]) -> Answered
     if sound::is_sound(s) {
         return reading::set_clock(s, reading, buffer);
     }
-    Answered {
-        answer: Answer::Refused(2),
-        schedule: s,
-    }
+    refused(s, 2)
 }
 
 // Calls, ask for a control: its holder, else the program of its default, else nobody.
@@ -127,12 +123,9 @@ pub fn ask(s: Schedule, control: u8) -> Answered
     ensures { λ r. ⌜ outcomeOf r [] [] ≡ call s (ask control) ⌝ }
 {
     if !sound::is_sound(s) {
-        return Answered {
-            answer: Answer::Refused(2),
-            schedule: s,
-        };
+        return refused(s, 2);
     }
-    let mut slots = [[0u64; 13]; 48];
+    let mut slots = held::NO_SLOTS;
     held::take_apart(s, &mut slots);
     let answer = programs::ask(held::head_of(s), &slots, control);
     Answered {
@@ -147,10 +140,7 @@ pub fn act(s: Schedule, line: &[u8], buffer: &mut [u8]) -> Answered
 {
     let decoded = frame::decode(line);
     let Line::Good(f) = decoded else {
-        return Answered {
-            answer: Answer::Refused(1),
-            schedule: s,
-        };
+        return refused(s, 1);
     };
     match f {
         Frame::Event(e) => deliver(s, e),
@@ -162,7 +152,8 @@ pub fn act(s: Schedule, line: &[u8], buffer: &mut [u8]) -> Answered
 }
 
 // Frames and image, the program. Acts on each line that ends with a line feed and writes what the program prints for it over the front of `out`, one text
-// after the other. It stops before a line when less than `text::MOST` bytes of room are left. It checks the schedule once, and keeps it to itself from line to line.
+// after the other. It stops before a line when less than `text::MOST` bytes of room are left. It checks the schedule once, and keeps it to itself from line
+// to line.
 pub fn run(s: Schedule, lines: &[u8], out: &mut [u8]) -> Ran
     ensures { λ r. ⌜ ranOf r (now (out .exit)) ≡ runOutcome s (now (lines .entry)) (now (out .entry)) ⌝ }
 {
@@ -176,8 +167,8 @@ pub fn run(s: Schedule, lines: &[u8], out: &mut [u8]) -> Ran
     }
 }
 
-// Frames and image, the program. Runs one after the other write what document 01 has printed for the whole text, wherever the text is cut and whatever room each
-// run has; and one run does, if there is room. This function does nothing: it carries the theorem as its promise.
+// Frames and image, the program. Runs one after the other write what document 01 has printed for the whole text, wherever the text is cut and whatever room
+// each run has; and one run does, if there is room. This function does nothing: it carries the theorem as its promise.
 pub fn whole_text()
     ensures { λ _. ⌜ WholeText ⌝ }
 {}

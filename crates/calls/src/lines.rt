@@ -1,20 +1,21 @@
 // Frames acted on, and lines found in a text, on sound slots.
 ghost use mathlib.Core.Path.{_≡_};
-ghost use mathlib.Core.Logic.{_⊎_};
-ghost use Prim.Native.Nat.{_+_, _-_, _<_, _≤_};
+ghost use Prim.Native.Nat.{_+_, _≤_};
 ghost use mathlib.Core.Bool.{true};
-ghost use lib.ListN.{length, getD, take, drop};
+ghost use lib.ListN.{length, drop};
 ghost use Rattle.rules.specs.Sound.{sound};
-ghost use Rattle.rules.specs.Frames.{lineOf};
-ghost use Rattle.text.specs.Texts.{mostText};
-ghost use Rattle.calls.specs.Slots.{scheduleOf, Ready};
-ghost use Rattle.calls.specs.Says.{ActsOn, Says};
-ghost use Rattle.calls.specs.Lines.{endedOf, upTo, runs, ranOf, ranInto};
+ghost use Rattle.calls.specs.Slots.{scheduleOf, Lent};
+ghost use Rattle.calls.specs.Says.{ActsOn, CanSay, Says};
+ghost use Rattle.calls.specs.Lines.{endedOf, upTo, LikelyEnd, IsNext, runs, ranOf, ranInto};
 use crate::Acted;
 use crate::Ran;
 use crate::events;
 use crate::held;
 use crate::held::Head;
+use crate::held::NO_ROWS;
+use crate::held::NO_SLOTS;
+use crate::held::Rows;
+use crate::held::Slots;
 use crate::programs;
 use crate::reading;
 use rules::Answer;
@@ -23,9 +24,8 @@ use rules::Line;
 use rules::Schedule;
 
 // Frames and image. The call of a frame; a clock reading writes its rows over the front of the buffer.
-fn act_on(d: Head, slots: &mut [[u64; 13]; 48], f: Frame, rows: &mut [u8; 1632]) -> Acted
-    requires { ⌜ Ready d (now slots) ⌝ }
-    requires { ⌜ length (now rows) ≡ 1632 ⌝ }
+fn act_on(d: Head, slots: &mut Slots, f: Frame, rows: &mut Rows) -> Acted
+    requires { ⌜ Lent d (now slots) (now rows) ⌝ }
     ensures { λ r. ⌜ ActsOn (scheduleOf d (now (slots .entry))) f r (now (slots .exit)) (now (rows .exit)) ⌝ }
 {
     match f {
@@ -58,7 +58,7 @@ fn end_of(text: &[u8], from: usize) -> usize
 // Frames and image. Where the line that begins at `from` ends if it is a frame's, whose kind tells how long it is; `from` if no line feed stands there.
 fn likely_end(text: &[u8], from: usize) -> usize
     requires { ⌜ from ≤ length (now text) ⌝ }
-    ensures { λ r. ⌜ (from ≤ r) × (r ≤ length (now (text .entry))) × ((r ≡ from) ⊎ ((r < length (now (text .entry))) × (getD (now (text .entry)) r 0 ≡ 10))) ⌝ }
+    ensures { λ r. ⌜ LikelyEnd (now (text .entry)) from r ⌝ }
 {
     let n = frame::length_by_kind(&text[from..]);
     if n < text.len() - from {
@@ -79,7 +79,7 @@ struct NextLine {
 // Frames and image. The line that begins at `from`. A frame's line has no line feed in it, so only a line that is no frame is searched for one.
 fn next_line(text: &[u8], from: usize) -> NextLine
     requires { ⌜ from ≤ length (now text) ⌝ }
-    ensures { λ r. ⌜ (r .end ≡ from + upTo (drop from (now (text .entry)))) × (r .line ≡ lineOf (take (r .end - from) (drop from (now (text .entry))))) ⌝ }
+    ensures { λ r. ⌜ IsNext (now (text .entry)) from r ⌝ }
 {
     let likely = likely_end(text, from);
     let decoded = frame::decode(&text[from..likely]);
@@ -103,14 +103,13 @@ struct Telling {
 // Frames and image, the program. Acts on what a line stands for and writes the line's text from `at` on.
 fn tell(
     d: Head,
-    slots: &mut [[u64; 13]; 48],
+    slots: &mut Slots,
     line: Line,
-    rows: &mut [u8; 1632],
+    rows: &mut Rows,
     out: &mut [u8],
     at: usize,
 ) -> Telling
-    requires { ⌜ Ready d (now slots) ⌝ }
-    requires { ⌜ (length (now rows) ≡ 1632) × (at + mostText ≤ length (now out)) ⌝ }
+    requires { ⌜ CanSay d (now slots) (now rows) (now out) at ⌝ }
     ensures { λ r. ⌜ Says (scheduleOf d (now (slots .entry))) line (now (out .entry)) at r (now (slots .exit)) (now (rows .exit)) (now (out .exit)) ⌝ }
 {
     let Line::Good(f) = line else {
@@ -130,10 +129,10 @@ pub(crate) fn run(s: Schedule, lines: &[u8], out: &mut [u8]) -> Ran
     requires { ⌜ sound s ≡ true ⌝ }
     ensures { λ r. ⌜ ranOf r (now (out .exit)) ≡ ranInto (runs (length (now (out .entry))) s (endedOf (now (lines .entry)))) (now (out .entry)) ⌝ }
 {
-    let mut slots = [[0u64; 13]; 48];
+    let mut slots = NO_SLOTS;
     held::take_apart(s, &mut slots);
     let mut d = held::head_of(s);
-    let mut rows = [0u8; 1632];
+    let mut rows = NO_ROWS;
     let mut from = 0;
     let mut at = 0;
     while from < lines.len() {

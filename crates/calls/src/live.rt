@@ -1,11 +1,14 @@
-// The live events: those that can claim a control up to a reading. A clock call looks at them alone; the others, which have lost all that they held, are cancelled
-// or begin later, stay as they are and give no row.
+// The live events: those that can claim a control up to a reading. A clock call looks at them alone; the others, which have lost all that they held, are
+// cancelled or begin later, stay as they are and give no row.
 ghost use mathlib.Core.Path.{_≡_};
 ghost use Prim.Native.Nat.{_≤_};
 ghost use lib.ListN.{length};
 ghost use Rattle.rules.specs.Records.{mostEvents};
 ghost use Rattle.calls.specs.Live.{liveOf, Placed, Picked, GivenBack};
 use crate::held;
+use crate::held::Masks;
+use crate::held::Places;
+use crate::held::Slots;
 
 // Whether an event can claim something after the clock and up to a reading.
 fn is_live(clock: u64, to: u64, stopped: bool, begins: u64, held: u32) -> bool
@@ -15,14 +18,8 @@ fn is_live(clock: u64, to: u64, stopped: bool, begins: u64, held: u32) -> bool
 }
 
 // The places of those of the first n events that are live; how many they are.
-pub(crate) fn pick(
-    clock: u64,
-    to: u64,
-    slots: &[[u64; 13]; 48],
-    n: usize,
-    places: &mut [u8; 48],
-) -> usize
-    requires { ⌜ (n ≤ mostEvents) × (length (now slots) ≡ mostEvents) × (length (now places) ≡ 48) ⌝ }
+pub(crate) fn pick(clock: u64, to: u64, slots: &Slots, n: usize, places: &mut Places) -> usize
+    requires { ⌜ (n ≤ mostEvents) × (length (now slots) ≡ mostEvents) × (length (now places) ≡ mostEvents) ⌝ }
     ensures { λ r. ⌜ Picked clock to n (now (slots .entry)) (now (places .exit)) r ⌝ }
 {
     let mut m = 0;
@@ -31,9 +28,9 @@ pub(crate) fn pick(
         if is_live(
             clock,
             to,
-            slots[i][12] == 1,
-            slots[i][10],
-            (slots[i][11] % 0x1_0000_0000) as u32,
+            held::is_cancelled_at(slots, i),
+            held::begins_at(slots, i),
+            held::held_at(slots, i),
         ) {
             places[m] = i as u8;
             m += 1;
@@ -44,7 +41,7 @@ pub(crate) fn pick(
 }
 
 // The masks of the events at the first m places, back into their slots.
-pub(crate) fn give_back(slots: &mut [[u64; 13]; 48], places: &[u8; 48], m: usize, held: &[u32; 48])
+pub(crate) fn give_back(slots: &mut Slots, places: &Places, m: usize, held: &Masks)
     requires { ⌜ (m ≤ mostEvents) × (length (now slots) ≡ mostEvents) × Placed m (now places) ⌝ }
     ensures { λ _. ⌜ GivenBack (now (slots .entry)) (now (places .entry)) m (now (held .entry)) (now (slots .exit)) ⌝ }
 {

@@ -1,26 +1,29 @@
 // Programs added, and questions: a control's holder or its default.
 ghost use mathlib.Core.Path.{_≡_};
 ghost use mathlib.Core.List.{List, [], map};
-ghost use Prim.Native.Nat.{ℕ, _<_, _≤_};
-ghost use lib.ListN.{length, take, getD};
-ghost use Rattle.rules.specs.Records.{mostEvents, has};
-ghost use Rattle.rules.specs.Calls.{call, addProgram, ask, numberOf, valueOf, holderIn, bestOf, bestDefault, defaultFor};
+ghost use Prim.Native.Nat.{ℕ, _<_};
+ghost use lib.ListN.{take, getD};
+ghost use Rattle.rules.specs.Records.{mostEvents, has, mostControls};
+ghost use Rattle.rules.specs.Calls.{call, addProgram, ask, valueOf, holderIn, bestOf, bestDefault, defaultFor};
 ghost use Rattle.calls.specs.Slots.{entryOf, scheduleOf, Ready};
-ghost use Rattle.calls.specs.Answered.{told, Acts};
-ghost use Rattle.calls.specs.Best.{ranked, carrying};
+ghost use Rattle.calls.specs.Answered.{told, Tells, Acts};
+ghost use Rattle.calls.specs.Best.{ranked, carrying, CanLook};
 use crate::Acted;
+use crate::held;
 use crate::held::Head;
+use crate::held::Programs;
+use crate::held::Slots;
 use crate::settle;
 use rules::Answer;
-use rules::Id;
 use rules::Primacy;
 use rules::Program;
+use rules::Schedule;
 
 // Numbers given, of adding a program, in checking order; then the program in its place. No slot is looked at.
 pub(crate) fn add_program(mut d: Head, number: u8, primacy: u8, defaults: u32) -> Acted
     ensures { λ r. ⌜ ((w : List (List ℕ)) → Ready d w → Acts r w [] (call (scheduleOf d w) (addProgram number primacy defaults))) ⌝ }
 {
-    if 7 < number {
+    if Program::LAST < number {
         return Acted {
             answer: Answer::Refused(3),
             head: d,
@@ -60,7 +63,7 @@ pub(crate) struct Best {
 
 // The better of a program and the best of those with larger numbers; of equal ones this one.
 fn better_default(p: Program, number: u8, control: u32, best: Best) -> Best
-    requires { ⌜ control < 32 ⌝ }
+    requires { ⌜ control < mostControls ⌝ }
     ensures { λ r. ⌜ ranked r ≡ bestOf (carrying control number p) (ranked best) ⌝ }
 {
     let carried = settle::is_in(p.defaults, control);
@@ -81,17 +84,20 @@ fn better_default(p: Program, number: u8, control: u32, best: Best) -> Best
     best
 }
 
+// How many numbers of programs there are.
+const PROGRAMS: u8 = Program::LAST + 1;
+
 // Calls, ask: the program with the best primacy whose defaults carry the control.
-fn default_of(programs: [Program; 8], control: u32) -> Answer
-    requires { ⌜ control < 32 ⌝ }
-    ensures { λ r. ⌜ (numberOf r ≡ 0) × (valueOf r ≡ defaultFor (bestDefault control 0 programs)) ⌝ }
+fn default_of(programs: Programs, control: u32) -> Answer
+    requires { ⌜ control < mostControls ⌝ }
+    ensures { λ r. ⌜ Tells r (defaultFor (bestDefault control 0 programs)) ⌝ }
 {
     let mut best = Best {
         found: false,
         number: 0,
         primacy: 0,
     };
-    let mut i: u8 = 8;
+    let mut i = PROGRAMS;
     while 0 < i {
         i -= 1;
         let p = programs[i as usize];
@@ -104,24 +110,22 @@ fn default_of(programs: [Program; 8], control: u32) -> Answer
 }
 
 // Whether the event in a slot holds the control.
-fn is_holder(slots: &[[u64; 13]; 48], i: usize, control: u32) -> bool
-    requires { ⌜ (i < mostEvents) × (control < 32) ⌝ }
+fn is_holder(slots: &Slots, i: usize, control: u32) -> bool
+    requires { ⌜ (i < mostEvents) × (control < mostControls) ⌝ }
     ensures { λ r. ⌜ r ≡ has (entryOf (getD (now (slots .entry)) i []) .held) control ⌝ }
 {
-    settle::is_in((slots[i][11] % 0x1_0000_0000) as u32, control)
+    settle::is_in(held::held_at(slots, i), control)
 }
 
 // Calls, ask: the event that holds the control, else the other answer.
-fn holder_or(slots: &[[u64; 13]; 48], n: usize, control: u32, other: Answer) -> Answer
-    requires { ⌜ control < 32 ⌝ }
-    requires { ⌜ (n ≤ mostEvents) × (length (now slots) ≡ mostEvents) ⌝ }
-    requires { ⌜ numberOf other ≡ 0 ⌝ }
-    ensures { λ r. ⌜ (numberOf r ≡ 0) × (valueOf r ≡ holderIn control (map entryOf (take n (now (slots .entry)))) (valueOf other)) ⌝ }
+fn holder_or(slots: &Slots, n: usize, control: u32, other: Answer) -> Answer
+    requires { ⌜ CanLook control n (now slots) other ⌝ }
+    ensures { λ r. ⌜ Tells r (holderIn control (map entryOf (take n (now (slots .entry)))) (valueOf other)) ⌝ }
 {
     let mut i = 0;
     while i < n {
         if is_holder(slots, i, control) {
-            let id = Id { value: slots[i][0] };
+            let id = held::id_at(slots, i);
             return Answer::Holder(id);
         }
         i += 1;
@@ -130,11 +134,11 @@ fn holder_or(slots: &[[u64; 13]; 48], n: usize, control: u32, other: Answer) -> 
 }
 
 // Calls, ask for a control. Nothing changes.
-pub(crate) fn ask(d: Head, slots: &[[u64; 13]; 48], control: u8) -> Answer
+pub(crate) fn ask(d: Head, slots: &Slots, control: u8) -> Answer
     requires { ⌜ Ready d (now slots) ⌝ }
     ensures { λ r. ⌜ told r (scheduleOf d (now (slots .entry))) ≡ call (scheduleOf d (now (slots .entry))) (ask control) ⌝ }
 {
-    if 31 < control {
+    if Schedule::LAST_CONTROL < control {
         return Answer::Refused(14);
     }
     let c = control as u32;

@@ -3,11 +3,10 @@ ghost use mathlib.Core.Path.{_≡_};
 ghost use mathlib.Core.Bool.{true, _||_};
 ghost use mathlib.Core.List.{[]};
 ghost use lib.Dec.{ltb};
-ghost use lib.ListN.{length};
 ghost use Rattle.rules.specs.Records.{lastClock};
 ghost use Rattle.rules.specs.Sound.{sound};
 ghost use Rattle.rules.specs.Calls.{call, setClock};
-ghost use Rattle.calls.specs.Slots.{scheduleOf, Ready};
+ghost use Rattle.calls.specs.Slots.{scheduleOf, Lent};
 ghost use Rattle.calls.specs.Answered.{outcomeOf};
 ghost use Rattle.calls.specs.Advanced.{Reads};
 use crate::Acted;
@@ -15,6 +14,11 @@ use crate::Answered;
 use crate::advance;
 use crate::held;
 use crate::held::Head;
+use crate::held::NO_ROWS;
+use crate::held::NO_SLOTS;
+use crate::held::Rows;
+use crate::held::Slots;
+use crate::refused;
 use rules::Answer;
 use rules::Schedule;
 
@@ -26,14 +30,8 @@ fn is_out_of_range(clock: u64, reading: u64) -> bool
 }
 
 // On slots; the rows go over the front of a buffer that all rows fit, so that there is no 13.
-pub(crate) fn pass(
-    d: Head,
-    slots: &mut [[u64; 13]; 48],
-    reading: u64,
-    rows: &mut [u8; 1632],
-) -> Acted
-    requires { ⌜ Ready d (now slots) ⌝ }
-    requires { ⌜ length (now rows) ≡ 1632 ⌝ }
+pub(crate) fn pass(d: Head, slots: &mut Slots, reading: u64, rows: &mut Rows) -> Acted
+    requires { ⌜ Lent d (now slots) (now rows) ⌝ }
     ensures { λ r. ⌜ Reads (scheduleOf d (now (slots .entry))) reading r (now (slots .exit)) (now (rows .exit)) ⌝ }
 {
     if is_out_of_range(d.clock, reading) {
@@ -56,23 +54,17 @@ pub(crate) fn set_clock(s: Schedule, reading: u64, buffer: &mut [u8]) -> Answere
     ensures { λ r. ⌜ outcomeOf r (now (buffer .exit)) [] ≡ call s (setClock reading (now (buffer .entry))) ⌝ }
 {
     if is_out_of_range(s.clock, reading) {
-        return Answered {
-            answer: Answer::Refused(12),
-            schedule: s,
-        };
+        return refused(s, 12);
     }
-    let mut slots = [[0u64; 13]; 48];
+    let mut slots = NO_SLOTS;
     held::take_apart(s, &mut slots);
-    let mut rows = [0u8; 1632];
+    let mut rows = NO_ROWS;
     let passed = advance::advance(held::head_of(s), &mut slots, reading, &mut rows);
     let n = passed.rows;
-    if buffer.len() < 17 * n {
-        return Answered {
-            answer: Answer::Refused(13),
-            schedule: s,
-        };
+    if buffer.len() < rules::ROW_SIZE * n {
+        return refused(s, 13);
     }
-    octets::copy(buffer, &rows, 17 * n);
+    octets::copy(buffer, &rows, rules::ROW_SIZE * n);
     let head = passed.head;
     Answered {
         answer: Answer::Count(n),

@@ -4,15 +4,16 @@ use Prim.Native.Nat.{ℕ, zero, suc, _*_, _<_, _≤_}
 use mathlib.Core.Bool.{Bool, true, false, cond, and-true, and-false}
 use mathlib.Core.List.{List}
 use native.Mathlib.Omega.{arith}
-use borrow.Author.Tests.{eq-eqb, ne-eqb, lt-leb}
+use borrow.Author.Tests.{eq-eqb, ne-eqb}
 use lib.Dec.{eqb}
 use lib.ListN.{length, getD, take}
 use lib.Seq.{take-all}
 use Rattle.rules.specs.declared.Line.the-variants.{Bad}
-use Rattle.rules.specs.Frames.{paired, unhex, isFrame, frameOf, lineOf}
+use Rattle.rules.specs.Records.{idSize}
+use Rattle.rules.specs.Frames.{eventFrame, cancelFrame, clockFrame, programFrame, askFrame, paired, unhex, isFrame, frameOf, lineOf}
 use Rattle.rules.proofs.Tests.{cond-same}
-use Rattle.frame.specs.Decoded.{sizeOf, frameAs}
-use Rattle.frame.proofs.Numbers.{read-take}
+use Rattle.frame.specs.Decoded.{sizeOf, longestLine, frameAs}
+use Rattle.frame.proofs.Fronts.{read-take}
 use Rattle.frame.proofs.Pairs.{length-unhex}
 
 -- a number that is no kind
@@ -28,15 +29,17 @@ above : (k : ℕ) → 5 < k → NoKind k
 unfolding sizeOf
 above k h =
     let one = ne-eqb k 1 (λ e. omega arith) in
+    let two = ne-eqb k 2 (λ e. omega arith) in
+    let three = ne-eqb k 3 (λ e. omega arith) in
     let four = ne-eqb k 4 (λ e. omega arith) in
     let five = ne-eqb k 5 (λ e. omega arith) in
     record {
       not-1 = one;
-      not-2 = ne-eqb k 2 (λ e. omega arith);
-      not-3 = ne-eqb k 3 (λ e. omega arith);
+      not-2 = two;
+      not-3 = three;
       not-4 = four;
       not-5 = five;
-      size = simp (one, lt-leb k 3 (omega arith), and-false, four, five);
+      size = simp (one, two, three, four, five);
     }
 
 -- what holds of each kind, and of what is no kind, holds of each number
@@ -50,9 +53,9 @@ by-kind P a b c d e none (suc (suc (suc (suc zero)))) = d
 by-kind P a b c d e none (suc (suc (suc (suc (suc zero))))) = e
 by-kind P a b c d e none (suc (suc (suc (suc (suc (suc k)))))) = none (suc (suc (suc (suc (suc (suc k)))))) (above (suc (suc (suc (suc (suc (suc k)))))) (omega arith))
 
-pub size-bound : (k : ℕ) → sizeOf k ≤ 34
+pub size-bound : (k : ℕ) → sizeOf k ≤ eventFrame
 unfolding sizeOf
-size-bound = by-kind (λ k. sizeOf k ≤ 34) (omega arith) (omega arith) (omega arith) (omega arith) (omega arith) (λ k n. omega (arith, n .size))
+size-bound = by-kind (λ k. sizeOf k ≤ eventFrame) (omega arith) (omega arith) (omega arith) (omega arith) (omega arith) (λ k n. omega (arith, n .size))
 
 pub frame-none : (k : ℕ) → NoKind k → (b : List ℕ) → frameAs k b ≡ Bad
 unfolding frameAs
@@ -75,14 +78,14 @@ frame-by-kind b = by-kind P
     P k = getD b 0 0 ≡ k → frameOf b ≡ cond (eqb (length b) (sizeOf k)) (frameAs k b) Bad
 
 -- a frame's fields stand within its size
-pub frame-front : (k : ℕ) (b : List ℕ) → length b ≡ 34 → frameAs k b ≡ frameAs k (take (sizeOf k) b)
+pub frame-front : (k : ℕ) (b : List ℕ) → length b ≡ eventFrame → frameAs k b ≡ frameAs k (take (sizeOf k) b)
 unfolding frameAs sizeOf
 frame-front k b h = by-kind (λ k. frameAs k b ≡ frameAs k (take (sizeOf k) b))
-    (rw (take-all 34 b (omega arith)))
-    (rw (read-take 8 1 9 b (omega arith)))
-    (rw (read-take 8 1 9 b (omega arith)))
-    (rw (read-take 1 1 7 b (omega arith), read-take 1 2 7 b (omega arith), read-take 4 3 7 b (omega arith)))
-    (rw (read-take 1 1 2 b (omega arith)))
+    (rw (take-all eventFrame b (omega arith)))
+    (rw (read-take idSize 1 cancelFrame b (omega arith)))
+    (rw (read-take 8 1 clockFrame b (omega arith)))
+    (rw (read-take 1 1 programFrame b (omega arith), read-take 1 2 programFrame b (omega arith), read-take 4 3 programFrame b (omega arith)))
+    (rw (read-take 1 1 askFrame b (omega arith)))
     (λ k n. frame-none k n b ∙ sym (frame-none k n (take (sizeOf k) b)))
     k
 
@@ -104,6 +107,6 @@ module _ (l : List ℕ) where
           rw (frame-by-kind (unhex l), n)
       go false p = refl
 
-  -- no kind asks for more than 34 pairs
-  pub long-line : 68 < length l → lineOf l ≡ Bad
+  -- no kind asks for more pairs than an event
+  pub long-line : longestLine < length l → lineOf l ≡ Bad
   long-line h = other-length (λ e. omega (arith, size-bound (getD (unhex l) 0 0)))

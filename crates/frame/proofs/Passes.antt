@@ -8,16 +8,16 @@ use native.Mathlib.Omega.{arith}
 use borrow.Author.Tests.{lt-ltb, le-ltb}
 use lib.ListN.{length, getD, take, drop, set, length-set, drop-of-length-le}
 use lib.Seq.{drop-cons, take-suc-set}
-use Rattle.rules.specs.Frames.{digit, paired, unhex}
+use Rattle.rules.specs.Frames.{eventFrame, digit, paired, unhex}
 use Rattle.frame.specs.Decoded.{Unhexed}
 
 -- i pairs are digits, and the array begins with their bytes
-pub record Passed (l : List ℕ) (i : ℕ) (b : List ℕ) : Type 0 where
-  pub size : length b ≡ 34
+pub record PairsPassed (l : List ℕ) (i : ℕ) (b : List ℕ) : Type 0 where
+  pub size : length b ≡ eventFrame
   pub digits : paired l ≡ paired (drop (2 * i) l)
   pub front : unhex l ≡ take i b ++ unhex (drop (2 * i) l)
 
-pub passed-none : (l b : List ℕ) → length b ≡ 34 → Passed l 0 b
+pub passed-none : (l b : List ℕ) → length b ≡ eventFrame → PairsPassed l 0 b
 passed-none l b h = record { size = h; digits = refl; front = refl }
 
 module _ (l : List ℕ) (i : ℕ) (h : 2 * i + 1 < length l) where
@@ -28,8 +28,8 @@ module _ (l : List ℕ) (i : ℕ) (h : 2 * i + 1 < length l) where
       rw (drop-cons l (2 * i) 0 (omega arith), e, drop-cons l (2 * i + 1) 0 h, f)
 
   -- the next pair is x and y
-  module _ {b : List ℕ} (p : Passed l i b) {x y : ℕ} (is-x : x ≡ digit (getD l (2 * i) 0)) (is-y : y ≡ digit (getD l (2 * i + 1) 0)) where
-    pub passed-more : x < 16 → y < 16 → i < 34 → Passed l (i + 1) (set b i (16 * x + y))
+  module _ {b : List ℕ} (p : PairsPassed l i b) {x y : ℕ} (is-x : x ≡ digit (getD l (2 * i) 0)) (is-y : y ≡ digit (getD l (2 * i + 1) 0)) where
+    pub passed-more : x < 16 → y < 16 → i < eventFrame → PairsPassed l (i + 1) (set b i (16 * x + y))
     unfolding paired unhex
     passed-more u v n =
         let e : i + 1 ≡ suc i = omega arith in
@@ -47,7 +47,7 @@ module _ (l : List ℕ) (i : ℕ) (h : 2 * i + 1 < length l) where
         bad (inl u) = rw (rest, ← is-x, le-ltb x 16 u)
         bad (inr v) = rw (rest, ← is-x, ← is-y, le-ltb y 16 v, and-false)
 
-pub passed-all : {l : List ℕ} {n : ℕ} {b : List ℕ} → length l ≡ 2 * n → Passed l n b → Unhexed l n true b
+pub passed-all : {l : List ℕ} {n : ℕ} {b : List ℕ} → length l ≡ 2 * n → PairsPassed l n b → Unhexed l n true b
 unfolding paired unhex
 passed-all {l} {n} e p =
     let end : drop (2 * n) l ≡ [] = drop-of-length-le l {i = 2 * n} (omega arith) in

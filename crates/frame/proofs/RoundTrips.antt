@@ -13,26 +13,29 @@ use mir.Val.{Val}
 use Rattle.rules.specs.declared.Frame.{Frame}
 use Rattle.rules.specs.declared.Frame.the-variants as frame
 use Rattle.rules.specs.declared.Line.the-variants.{Good, Bad}
-use Rattle.rules.specs.Bytes.{big, read, idAt, eventAt, eventBytes}
-use Rattle.rules.specs.Frames.{paired, unhex, isFrame, frameOf, lineOf}
-use Rattle.rules.proofs.Numbers.{Bytes, read-big, piece}
+use Rattle.rules.specs.Records.{idSize, idLimit, idNumber}
+use Rattle.rules.specs.Bytes.{big, read, idAt, eventSize, eventAt, eventBytes}
+use Rattle.rules.specs.Frames.{eventFrame, programFrame, paired, unhex, isFrame, frameOf, lineOf}
+use Rattle.rules.proofs.IdLaws.{number-id, id-number}
+use Rattle.rules.proofs.Numbers.{Bytes, read-below, read-big, piece}
 use Rattle.rules.proofs.Entries.{FitsEvent, event-of-bytes, event-drop, event-piece}
 use Rattle.rules.proofs.Ranges.{Owned}
 use Rattle.rules.proofs.Frame as frames
 use Rattle.frame.specs.Decoded.{sizeOf, frameAs}
-use Rattle.frame.specs.Encoded.{hexed, fieldBytes, frameBytes, encoded}
+use Rattle.frame.specs.Encoded.{hexed, programFields, fieldBytes, frameBytes, encoded}
 use Rattle.frame.proofs.Pairs.{Small, paired-hexed, unhex-hexed, hexed-unhex, bytes-unhex}
 use Rattle.frame.proofs.ByKind.{by-kind, frame-none, frame-by-kind}
 
 -- each field fits its width
 abbrev FitsFrame : Frame → Type 0
 FitsFrame (frame.Event e) = FitsEvent e
-FitsFrame (frame.Cancel i) = i .value < 256 ^ 8
+FitsFrame (frame.Cancel i) = idNumber i < idLimit
 FitsFrame (frame.Clock t) = t < 256 ^ 8
 FitsFrame (frame.Program n p d) = (n < 256 ^ 1) × (p < 256 ^ 1) × (d < 256 ^ 4)
 FitsFrame (frame.Ask c) = c < 256 ^ 1
 
 pub frame-fits : (f : Frame) (vs : List Val) → Owned frames.the-field f vs → FitsFrame f
+unfolding idNumber
 frame-fits (frame.Event e) vs s = search needs
 frame-fits (frame.Cancel i) vs s = search needs
 frame-fits (frame.Clock t) vs s = search needs
@@ -50,7 +53,7 @@ small-bytes (frame.Ask c) = omega arith
 frame-of-bytes : (f : Frame) → FitsFrame f → frameOf (frameBytes f) ≡ Good f
 unfolding frameOf isFrame frameBytes fieldBytes eventBytes big read
 frame-of-bytes (frame.Event e) h = ap (λ x. Good (frame.Event x)) (sym (event-drop 1 (1 ∷ eventBytes e)) ∙ event-of-bytes e h [])
-frame-of-bytes (frame.Cancel i) h = rw (read-big 8 (i .value) h)
+frame-of-bytes (frame.Cancel i) h = rw (read-big idSize (idNumber i) h, id-number i)
 frame-of-bytes (frame.Clock t) h = rw (read-big 8 t h)
 frame-of-bytes (frame.Program n p d) h = rw (read-big 1 n (h .0), read-big 1 p (h .1), read-big 4 d (h .2))
 frame-of-bytes (frame.Ask c) h = rw (read-big 1 c h)
@@ -68,12 +71,15 @@ module _ (b : List ℕ) (bytes : Bytes b) where
       let all : fields ≡ drop 1 b = sym (append-nil fields) ∙ rw end at e in
       rw (all, ← i) (sym (drop-cons b 0 0 (omega arith)))
 
-  of-event : length b ≡ 34 → eventBytes (eventAt 1 b) ++ drop 34 b ≡ drop 1 b
+  of-event : length b ≡ eventFrame → eventBytes (eventAt 1 b) ++ drop eventFrame b ≡ drop 1 b
   of-event h =
-      let room : 33 ≤ length (drop 1 b) = simp length-drop (omega arith) in
+      let room : eventSize ≤ length (drop 1 b) = simp length-drop (omega arith) in
       rw (event-drop, drop-drop) at (event-piece (drop 1 b) (λ i. rw getD-drop (bytes (1 + i))) room)
 
-  of-program : length b ≡ 7 → (big 1 (read 1 1 b) ++ (big 1 (read 1 2 b) ++ big 4 (read 4 3 b))) ++ drop 7 b ≡ drop 1 b
+  of-id : 1 + idSize ≤ length b → big idSize (idNumber (idAt 1 b)) ++ drop (1 + idSize) b ≡ drop 1 b
+  of-id h = rw (number-id (read idSize 1 b) (read-below b bytes idSize 1)) (piece b bytes idSize 1 (omega arith))
+
+  of-program : length b ≡ programFrame → programFields (read 1 1 b) (read 1 2 b) (read 4 3 b) ++ drop programFrame b ≡ drop 1 b
   of-program h = simp append-assoc (rw (piece b bytes 4 3 (omega arith), piece b bytes 1 2 (omega arith), piece b bytes 1 1 (omega arith)))
 
   module _ (f : Frame) where
@@ -84,8 +90,8 @@ module _ (b : List ℕ) (bytes : Bytes b) where
     unfolding IsBytes frameAs sizeOf frameBytes fieldBytes
     by-fields =
         by-kind IsBytes
-        (λ i n q. let g : f ≡ frame.Event (eventAt 1 b) = cc in rw g (behind 1 33 _ i n (of-event n)))
-        (λ i n q. let g : f ≡ frame.Cancel (idAt 1 b) = cc in rw g (behind 2 8 _ i n (piece b bytes 8 1 (omega arith))))
+        (λ i n q. let g : f ≡ frame.Event (eventAt 1 b) = cc in rw g (behind 1 eventSize _ i n (of-event n)))
+        (λ i n q. let g : f ≡ frame.Cancel (idAt 1 b) = cc in rw g (behind 2 idSize _ i n (of-id (omega arith))))
         (λ i n q. let g : f ≡ frame.Clock (read 8 1 b) = cc in rw g (behind 3 8 _ i n (piece b bytes 8 1 (omega arith))))
         (λ i n q. let g : f ≡ frame.Program (read 1 1 b) (read 1 2 b) (read 4 3 b) = cc in rw g (behind 4 6 _ i n (of-program n)))
         (λ i n q. let g : f ≡ frame.Ask (read 1 1 b) = cc in rw g (behind 5 1 _ i n (piece b bytes 1 1 (omega arith))))

@@ -1,19 +1,29 @@
 -- What the functions under the decoder promise: a kind's size, its frame from the bytes, and the pairs of a line as bytes.
 use mathlib.Core.Path.{_≡_}
-use Prim.Native.Nat.{ℕ, _<_}
-use mathlib.Core.Bool.{Bool, true, cond, _&&_}
+use Prim.Native.Nat.{ℕ, _*_, _<_, _≤_}
+use mathlib.Core.Bool.{Bool, true, cond}
 use mathlib.Core.List.{List}
-use lib.Dec.{leb, ltb, eqb}
+use lib.Dec.{ltb, eqb}
 use lib.ListN.{length, take, getD}
 use Rattle.rules.specs.declared.Line.{Line}
 use Rattle.rules.specs.declared.Line.the-variants.{Good, Bad}
 use Rattle.rules.specs.declared.Frame.the-variants as frame
 use Rattle.rules.specs.Bytes.{read, idAt, eventAt}
-use Rattle.rules.specs.Frames.{digit, paired, unhex}
+use Rattle.rules.specs.Frames.{eventFrame, cancelFrame, clockFrame, programFrame, askFrame, digit, paired, unhex}
 
 -- Frames and image, how many bytes a frame of a kind has, 0 for a number that is no kind
 unfoldable pub sizeOf : ℕ → ℕ
-sizeOf kind = cond (eqb kind 1) 34 (cond (leb 2 kind && leb kind 3) 9 (cond (eqb kind 4) 7 (cond (eqb kind 5) 2 0)))
+sizeOf kind =
+    cond (eqb kind 1) eventFrame
+    (cond (eqb kind 2) cancelFrame
+    (cond (eqb kind 3) clockFrame
+    (cond (eqb kind 4) programFrame
+    (cond (eqb kind 5) askFrame
+    0))))
+
+-- the longest line: that of an event
+abbrev pub longestLine : ℕ
+longestLine = 2 * eventFrame
 
 -- `frameOf` of bytes that are as many as the kind asks for
 unfoldable pub frameAs : ℕ → List ℕ → Line
@@ -33,8 +43,14 @@ worth c = cond (ltb (digit c) 16) (digit c) 256
 pub record Table (t : List ℕ) : Type 0 where
   pub at : (c : ℕ) → c < 256 → getD t c 0 ≡ worth c
 
+-- a line of n pairs, and an array with a place for the byte of each
+pub record LineOfPairs (l : List ℕ) (n : ℕ) (b : List ℕ) : Type 0 where
+  pub few : n ≤ eventFrame
+  pub pairs : length l ≡ 2 * n
+  pub places : length b ≡ eventFrame
+
 -- whether the n pairs of a line are digits, and if so their bytes, at the front of the array
 pub record Unhexed (l : List ℕ) (n : ℕ) (good : Bool) (b : List ℕ) : Type 0 where
-  pub size : length b ≡ 34
+  pub size : length b ≡ eventFrame
   pub digits : good ≡ paired l
   pub bytes : good ≡ true → take n b ≡ unhex l

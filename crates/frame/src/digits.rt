@@ -1,12 +1,12 @@
 // Pairs of upper-case hexadecimal digits, read and written.
 ghost use mathlib.Core.Path.{_≡_};
-ghost use Prim.Native.Nat.{_+_, _*_, _≤_, _<_};
-ghost use lib.ListN.{length, getD};
-ghost use Rattle.rules.specs.Lists.{overAt};
-ghost use Rattle.rules.specs.Bytes.{big};
+ghost use Prim.Native.Nat.{_<_};
+ghost use lib.ListN.{take, getD};
+ghost use Rattle.rules.specs.Lists.{over};
 ghost use Rattle.rules.specs.Frames.{digit, unhex};
-ghost use Rattle.frame.specs.Decoded.{worth, Table, Unhexed};
-ghost use Rattle.frame.specs.Encoded.{hex, hexed};
+ghost use Rattle.frame.specs.Decoded.{worth, Table, LineOfPairs, Unhexed};
+ghost use Rattle.frame.specs.Encoded.{hex, hexed, PairsFit};
+use crate::LONGEST;
 
 // What a digit stands for, 16 for any other byte.
 fn nibble(c: u8) -> u8
@@ -62,8 +62,8 @@ fn value(values: &[u16; 256], c: u8) -> u16
 }
 
 // The bytes of a line of n pairs, in one pass that stops at the first pair with a byte that is no digit; whether there is no such byte.
-pub(crate) fn read_pairs(line: &[u8], n: usize, bytes: &mut [u8; 34]) -> bool
-    requires { ⌜ (n ≤ 34) × (length (now line) ≡ 2 * n) × (length (now bytes) ≡ 34) ⌝ }
+pub(crate) fn read_pairs(line: &[u8], n: usize, bytes: &mut [u8; LONGEST]) -> bool
+    requires { ⌜ LineOfPairs (now line) n (now bytes) ⌝ }
     ensures { λ r. ⌜ Unhexed (now (line .entry)) n r (now (bytes .exit)) ⌝ }
 {
     let values = table();
@@ -92,18 +92,16 @@ fn digit_of(d: u8) -> u8
     }
 }
 
-// Writes the last n bytes of a number as pairs, the most significant first, from `at` on.
-pub(crate) fn put(out: &mut [u8], at: usize, n: usize, x: u64)
-    requires { ⌜ at + 2 * n ≤ length (now out) ⌝ }
-    ensures { λ _. ⌜ now (out .exit) ≡ overAt at (hexed (big n x)) (now (out .entry)) ⌝ }
+// Writes the first n bytes as pairs over the front of `out`.
+pub(crate) fn put_pairs(out: &mut [u8], bytes: &[u8], n: usize)
+    requires { ⌜ PairsFit n (now bytes) (now out) ⌝ }
+    ensures { λ _. ⌜ now (out .exit) ≡ over (hexed (take n (now (bytes .entry)))) (now (out .entry)) ⌝ }
 {
-    let mut rest = x;
-    let mut i = n;
-    while 0 < i {
-        i -= 1;
-        let byte = (rest % 256) as u8;
-        out[at + 2 * i] = digit_of(byte / 16);
-        out[at + 2 * i + 1] = digit_of(byte % 16);
-        rest /= 256;
+    let mut i = 0;
+    while i < n {
+        let byte = bytes[i];
+        out[2 * i] = digit_of(byte / 16);
+        out[2 * i + 1] = digit_of(byte % 16);
+        i += 1;
     }
 }

@@ -5,24 +5,43 @@ ghost use lib.ListN.{length, getD};
 ghost use Rattle.rules.specs.declared.Frame.{Frame};
 ghost use Rattle.rules.specs.declared.Line.the-variants.{Good, Bad};
 ghost use Rattle.rules.specs.Frames.{unhex, lineOf};
-ghost use Rattle.frame.specs.Decoded.{sizeOf};
+ghost use Rattle.frame.specs.Decoded.{sizeOf, longestLine};
 ghost use Rattle.frame.specs.Encoded.{encoded, encodedInto, kindOf};
 
 mod digits;
 mod fields;
 
+use rules::Event;
 use rules::Frame;
+use rules::Id;
 use rules::Line;
+
+// Frames and image. Bytes of each kind of frame: the kind, and then the fields. An event's frame is the longest.
+const EVENT_FRAME: usize = 1 + Event::SIZE;
+
+const CANCEL_FRAME: usize = 1 + Id::SIZE;
+
+const CLOCK_FRAME: usize = 9;
+
+const PROGRAM_FRAME: usize = 7;
+
+const ASK_FRAME: usize = 2;
+
+const LONGEST: usize = EVENT_FRAME;
+
+// Frames and image. The longest line of a frame.
+pub const LONGEST_LINE: usize = 2 * LONGEST;
 
 // Frames and image. How many bytes a frame of a kind has, 0 for a number that is no kind.
 fn size_of(kind: u16) -> usize
     ensures { λ r. ⌜ r ≡ sizeOf kind ⌝ }
 {
     match kind {
-        1 => 34,
-        2..=3 => 9,
-        4 => 7,
-        5 => 2,
+        1 => EVENT_FRAME,
+        2 => CANCEL_FRAME,
+        3 => CLOCK_FRAME,
+        4 => PROGRAM_FRAME,
+        5 => ASK_FRAME,
         _ => 0,
     }
 }
@@ -43,7 +62,7 @@ pub fn decode(line: &[u8]) -> Line
     if line.len() != 2 * size {
         return Line::Bad;
     }
-    let mut bytes = [0u8; 34];
+    let mut bytes = [0u8; LONGEST];
     if !digits::read_pairs(line, size, &mut bytes) {
         return Line::Bad;
     }
@@ -68,13 +87,15 @@ pub fn encode(f: Frame, out: &mut [u8]) -> usize
     ensures { λ r. ⌜ (r, now (out .exit)) ≡ encodedInto f (now (out .entry)) ⌝ }
 {
     let kind = kind_of(f);
-    let length = 2 * size_of(kind);
-    if out.len() < length {
+    let size = size_of(kind);
+    if out.len() < 2 * size {
         return 0;
     }
-    digits::put(out, 0, 1, kind as u64);
-    fields::put(out, f);
-    length
+    let mut bytes = [0u8; LONGEST];
+    octets::put(&mut bytes, 0, 1, kind as u64);
+    fields::put(&mut bytes, f);
+    digits::put_pairs(out, &bytes, size);
+    2 * size
 }
 
 // Frames and image. A frame is decoded from its line.
@@ -87,7 +108,7 @@ pub fn encode_decoded(line: &[u8])
     ensures { λ _. ⌜ ((f : Frame) → lineOf (now (line .entry)) ≡ Good f → encoded f ≡ now (line .entry)) ⌝ }
 {}
 
-// Frames and image. A line of more than 68 bytes is no frame, so a host need not keep more than 69 bytes of one.
+// Frames and image. A line of more than `LONGEST_LINE` bytes is no frame, so a host need not keep more than one byte more of any line.
 pub fn long_line(line: &[u8])
-    ensures { λ _. ⌜ (68 < length (now (line .entry)) → lineOf (now (line .entry)) ≡ Bad) ⌝ }
+    ensures { λ _. ⌜ (longestLine < length (now (line .entry)) → lineOf (now (line .entry)) ≡ Bad) ⌝ }
 {}

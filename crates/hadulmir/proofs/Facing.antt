@@ -1,6 +1,6 @@
 -- An operation on bytes that keep an image's length and marks: the call itself looks at the rules, and its outcome is what the face shows.
 use mathlib.Core.Path.{_≡_, refl, sym, ap, _∙_}
-use Prim.Native.Nat.{ℕ, _≤_}
+use Prim.Native.Nat.{ℕ}
 use mathlib.Core.Bool.{Bool, true, false, cond, not}
 use mathlib.Core.List.{List, []}
 use borrow.Author.Tests.{eqb-true, eqb-false, not-true, not-false}
@@ -11,17 +11,17 @@ use Rattle.rules.specs.declared.Schedule.{Schedule}
 use Rattle.rules.specs.Records.{fresh, pad}
 use Rattle.rules.specs.Sound.{sound}
 use Rattle.rules.specs.Image.{imageSize, image, loaded, formed, imaged}
-use Rattle.rules.specs.Calls.{Call, Value, Outcome, numberOf, valueOf, counted, lentBytes, call}
-use Rattle.rules.specs.Face.{Operation, asCall, idTooLong, shown, negative, lentAfter, FaceOutcome, face}
+use Rattle.rules.specs.Calls.{Bare, Call, bare, Outcome, numberOf, valueOf, counted, lentBytes, call}
+use Rattle.rules.specs.Face.{Operation, makes, asCall, answerBytes, idTooLong, shown, negative, lentAfter, FaceOutcome, face}
 use Rattle.rules.proofs.Tests.{each-true}
 use Rattle.rules.proofs.CallLaws.{call-clauses}
-use Rattle.rules.proofs.FaceLaws.{face-clauses}
+use Rattle.rules.proofs.FaceLaws.{isQuestion, no-id, id-fits, face-clauses}
 use Rattle.image.specs.declared.Loaded.{Loaded}
 use Rattle.image.specs.Exchange.{noImage, readOf, writtenTo}
 use Rattle.calls.specs.declared.Answered.{Answered}
 use Rattle.calls.specs.Answered.{outcomeOf}
 use Rattle.calls.proofs.Said.{call-counted}
-use Rattle.hadulmir.specs.Outcomes.{faceOf, returnedFor, finished}
+use Rattle.hadulmir.specs.Outcomes.{faceOf, MayStore, returnedFor, finished}
 
 -- an operation on bytes that are no image, or one that breaks a rule
 pub unimaged : (l : List ℕ) → imaged l ≡ false → (op : Operation) (lent : List ℕ) {r : ℕ} → r ≡ negative 2 → faceOf r l lent ≡ face l op lent
@@ -87,7 +87,7 @@ module _ {l : List ℕ} {b : Loaded} (f : Formed l b) where
 
   module _ (op : Operation) (lent : List ℕ) where
     -- the face is what it shows of the outcome by value
-    pub face-is : {o : Outcome} → o ≡ call (b .schedule) (asCall op lent) → idTooLong op (o .value) (length lent) ≡ false → face l op lent ≡ faced l op lent o
+    pub face-is : {o : Outcome} → o ≡ call (b .schedule) (asCall op lent) → idTooLong (o .value) (length lent) ≡ false → face l op lent ≡ faced l op lent o
     face-is {o} p long = by (sound (loaded l)) (eqb (o .number) 0) refl refl
       where
         q : o ≡ call (loaded l) (asCall op lent)
@@ -108,13 +108,17 @@ module _ {l : List ℕ} {b : Loaded} (f : Formed l b) where
 
   -- what storing an outcome asks for
   pub small : (a : Answered) {bytes : List ℕ} {records : List Record} (c : Call) → outcomeOf a bytes records ≡ call (b .schedule) c
-      → (counted (valueOf (a .answer)) ≤ 96) × (length l ≡ imageSize)
-  small a c q = (rw (ap (λ (o : Outcome). counted (o .value)) q) (call-counted (b .schedule) c), f .size)
+      → MayStore (a .answer) l
+  small a c q = record { few = rw (ap (λ (o : Outcome). counted (o .value)) q) (call-counted (b .schedule) c); size = f .size }
 
 -- What is written: the image if the length is right.
-pub written-as : (s : Schedule) (l : List ℕ) {t : Bool} {m : List ℕ} → (t, m) ≡ writtenTo s l → (t ≡ eqb (length l) imageSize) × (m ≡ cond t (image s) l)
+pub record WrittenAs (s : Schedule) (l : List ℕ) (t : Bool) (m : List ℕ) : Type 0 where
+  pub fits : t ≡ eqb (length l) imageSize
+  pub leaves : m ≡ cond t (image s) l
+
+pub written-as : (s : Schedule) (l : List ℕ) {t : Bool} {m : List ℕ} → (t, m) ≡ writtenTo s l → WrittenAs s l t m
 unfolding writtenTo
-written-as s l {t} {m} q = by (eqb (length l) imageSize) q
+written-as s l {t} {m} q = let p = by (eqb (length l) imageSize) q in record { fits = p .0; leaves = p .1 }
   where
     by : (u : Bool) → _≡_ {A = Bool × List ℕ} (t, m) (cond u (true, image s) (false, l)) → (t ≡ u) × (m ≡ cond t (image s) l)
     by true p = let h = ap (λ (x : Bool × List ℕ). x .0) p in (h, rw h (ap (λ (x : Bool × List ℕ). x .1) p))
@@ -123,11 +127,11 @@ written-as s l {t} {m} q = by (eqb (length l) imageSize) q
 -- An operation that stores what its call left. Its lent bytes are those that the call was lent.
 pub stored : {l : List ℕ} {b : Loaded} → Formed l b → (op : Operation) (lent : List ℕ) (a : Answered) {after : List ℕ} {records : List Record}
     → outcomeOf a after records ≡ call (b .schedule) (asCall op lent)
-    → ((v : Value) → idTooLong op v (length lent) ≡ false) → lentAfter op (outcomeOf a after records) lent ≡ after → lentBytes (asCall op lent) ≡ lent
+    → isQuestion (asCall op lent) ≡ false → lentAfter op (outcomeOf a after records) lent ≡ after → lentBytes (asCall op lent) ≡ lent
     → {r : ℕ} {m : List ℕ} → (r, m) ≡ finished a l → faceOf r m after ≡ face l op lent
 unfolding finished returnedFor
-stored {l} f op lent a {after} {records} q fits kept whole p =
-    ap (λ (x : ℕ × List ℕ). faceOf (x .0) (x .1) after) p ∙ by (eqb (numberOf (a .answer)) 0) refl ∙ sym (face-is f op lent q (fits (valueOf (a .answer))))
+stored {l} {b} f op lent a {after} {records} q told kept whole p =
+    ap (λ (x : ℕ × List ℕ). faceOf (x .0) (x .1) after) p ∙ by (eqb (numberOf (a .answer)) 0) refl ∙ sym (face-is f op lent q (rw (ap (λ (o : Outcome). o .value) q) (id-fits (b .schedule) (asCall op lent) told (length lent))))
   where
     by : (t : Bool) → eqb (numberOf (a .answer)) 0 ≡ t
         → faceOf (cond t (shown (valueOf (a .answer))) (negative (numberOf (a .answer)))) (cond t (image (a .schedule)) l) after
@@ -140,10 +144,9 @@ stored {l} f op lent a {after} {records} q fits kept whole p =
 
 -- An operation that is lent nothing, from what the read found: its call asks no more of the store, and the store leaves what the face shows.
 module _ (l : List ℕ) {b : Loaded} (e : b ≡ readOf l) (f : not (b .formed) ≡ false) (a : Answered) where
-  pub may-store : (c : Call) → outcomeOf a [] [] ≡ call (b .schedule) c → (counted (valueOf (a .answer)) ≤ 96) × (length l ≡ imageSize)
+  pub may-store : (c : Call) → outcomeOf a [] [] ≡ call (b .schedule) c → MayStore (a .answer) l
   may-store = small (formed-as l e f) a
 
-  pub stored-alone : (op : Operation) → outcomeOf a [] [] ≡ call (b .schedule) (asCall op [])
-      → ((v : Value) → idTooLong op v 0 ≡ false) → lentAfter op (outcomeOf a [] []) [] ≡ [] → lentBytes (asCall op []) ≡ []
-      → {r : ℕ} {m : List ℕ} → (r, m) ≡ finished a l → faceOf r m [] ≡ face l op []
-  stored-alone op = stored (formed-as l e f) op [] a
+  pub stored-alone : (c : Bare) → outcomeOf a [] [] ≡ call (b .schedule) (bare c) → isQuestion (bare c) ≡ false
+      → {r : ℕ} {m : List ℕ} → (r, m) ≡ finished a l → faceOf r m [] ≡ face l (makes c) []
+  stored-alone c q told = stored (formed-as l e f) (makes c) [] a q told (rw (ap (λ (o : Outcome). answerBytes (o .value)) q ∙ no-id (b .schedule) (bare c) told)) refl

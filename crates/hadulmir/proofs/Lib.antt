@@ -1,3 +1,3 @@
 -- What belongs to no one function.
-pub mod Facing
-pub mod Unstored
+pub mod Facing  -- an operation shows the outcome of its call
+pub mod Unstored  -- an operation that has nothing to store

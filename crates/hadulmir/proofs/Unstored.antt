@@ -7,7 +7,7 @@ use native.Mathlib.Omega.{arith}
 use borrow.Author.Tests.{eqb-true, not-false, lt-ltb, le-ltb}
 use denote.Enum.Declared.{tagOf}
 use types.Run.{OneOf, miss}
-use lib.Dec.{eqb}
+use lib.Dec.{ltb, eqb}
 use lib.ListN.{length, take, drop, replicate, length-replicate, take-append-drop}
 use lib.Seq.{take-at, length-take-le}
 use Rattle.rules.specs.declared.Answer.{Answer}
@@ -17,15 +17,15 @@ use Rattle.rules.specs.declared.Entry.{Entry}
 use Rattle.rules.specs.declared.Record.{Record}
 use Rattle.rules.specs.declared.Schedule.{Schedule}
 use Rattle.rules.specs.Lists.{over}
-use Rattle.rules.specs.Records.{noEntry, view}
+use Rattle.rules.specs.Records.{idSize, idNumber, noEntry, view}
 use Rattle.rules.specs.Sound.{whole, sound}
-use Rattle.rules.specs.Bytes.{flat, entryBytes}
-use Rattle.rules.specs.Image.{image}
+use Rattle.rules.specs.Bytes.{big, flat, entrySize, entryBytes}
+use Rattle.rules.specs.Image.{entriesAt, image}
 use Rattle.rules.specs.Calls.{ask, Outcome, count, holder, numberOf, valueOf, recordOf, does, refusal, accepts, accepted, refused, call}
-use Rattle.rules.specs.Face.{Operation, asks, lists, asCall, idTooLong, shown, negative, lentAfter, face}
+use Rattle.rules.specs.Face.{Operation, asks, lists, asCall, answerBytes, idTooLong, shown, negative, lentAfter, face}
 use Rattle.rules.proofs.Answer.{the-type}
 use Rattle.rules.proofs.Tests.{each-true, first-not}
-use Rattle.rules.proofs.Numbers.{Bytes, flat-length, flat-append}
+use Rattle.rules.proofs.Numbers.{Bytes, big-length, flat-length, flat-append}
 use Rattle.rules.proofs.Entries.{entry-size}
 use Rattle.rules.proofs.Images.{image-loaded, at-entries}
 use Rattle.rules.proofs.SoundState.{rules, pad-view}
@@ -46,7 +46,7 @@ module _ {l : List ℕ} {b : Loaded} (f : Formed l b) (bytes : Bytes l) where
 
   -- accepted, and the schedule as it was
   pub shows : (op : Operation) (lent : List ℕ) {o : Outcome} → o ≡ call (b .schedule) (asCall op lent) → o .number ≡ 0 → o .state ≡ b .schedule
-      → idTooLong op (o .value) (length lent) ≡ false → face l op lent ≡ faceOf (shown (o .value)) l (lentAfter op o lent)
+      → idTooLong (o .value) (length lent) ≡ false → face l op lent ≡ faceOf (shown (o .value)) l (lentAfter op o lent)
   shows op lent {o} q z s long =
       face-is f op lent q long ∙ ap (λ (n : ℕ). cond (eqb n 0) (faceOf (shown (o .value)) (image (o .state)) (lentAfter op o lent)) (faceOf (negative n) l lent)) z
       ∙ ap (λ (m : List ℕ). faceOf (shown (o .value)) m (lentAfter op o lent)) (ap image s ∙ is-image)
@@ -61,15 +61,18 @@ ask-leaves s c = by (accepts s (ask c)) refl
     by true h = pad-view s (not-false (sound s) (first-not 2 (not (sound s)) _ refl h .0))
     by false h = refl
 
+-- no bytes fit any buffer
+none-fits : (lent : List ℕ) → ltb (length lent) 0 ≡ false
+none-fits lent = le-ltb (length lent) 0 (omega arith)
+
 -- an answer that names no holder has no id to be written
-no-id : (a : Answer) → OneOf (0 ∷ 1 ∷ 2 ∷ 4 ∷ 5 ∷ []) (tagOf the-type a) → (c : ℕ) (s : Schedule) (lent : List ℕ)
-    → (idTooLong (asks c) (valueOf a) (length lent) ≡ false) × (lentAfter (asks c) (outcomeOf (record { answer = a; schedule = s }) [] []) lent ≡ lent)
-no-id (Refused n) k c s lent = (refl, refl)
-no-id (Code n) k c s lent = (refl, refl)
-no-id (Count n) k c s lent = (refl, refl)
-no-id (Holder i) k c s lent = absurd (miss (0 ∷ 1 ∷ 2 ∷ 4 ∷ 5 ∷ []) 3 tt k)
-no-id (Default p) k c s lent = (refl, refl)
-no-id Nobody k c s lent = (refl, refl)
+unnamed : (a : Answer) → OneOf (0 ∷ 1 ∷ 2 ∷ 4 ∷ 5 ∷ []) (tagOf the-type a) → answerBytes (valueOf a) ≡ []
+unnamed (Refused n) k = refl
+unnamed (Code n) k = refl
+unnamed (Count n) k = refl
+unnamed (Holder i) k = absurd (miss (0 ∷ 1 ∷ 2 ∷ 4 ∷ 5 ∷ []) 3 tt k)
+unnamed (Default p) k = refl
+unnamed Nobody k = refl
 
 module _ {l : List ℕ} {b : Loaded} (f : Formed l b) (bytes : Bytes l) (c : ℕ) (lent : List ℕ) (a : Answered) (q : outcomeOf a [] [] ≡ call (b .schedule) (ask c)) where
   leaves : a .schedule ≡ b .schedule
@@ -77,25 +80,36 @@ module _ {l : List ℕ} {b : Loaded} (f : Formed l b) (bytes : Bytes l) (c : ℕ
 
   pub asked-other : OneOf (0 ∷ 1 ∷ 2 ∷ 4 ∷ 5 ∷ []) (tagOf the-type (a .answer)) → {r : ℕ} → r ≡ returnedFor (a .answer) → faceOf r l lent ≡ face l (asks c) lent
   unfolding returnedFor
-  asked-other k p = ap (λ (r : ℕ). faceOf r l lent) p ∙ by (no-id (a .answer) k c (a .schedule) lent) (eqb (numberOf (a .answer)) 0) refl
+  asked-other k p = ap (λ (r : ℕ). faceOf r l lent) p ∙ by (eqb (numberOf (a .answer)) 0) refl
     where
-      by : (idTooLong (asks c) (valueOf (a .answer)) (length lent) ≡ false) × (lentAfter (asks c) (outcomeOf a [] []) lent ≡ lent) → (t : Bool) → eqb (numberOf (a .answer)) 0 ≡ t → faceOf (cond t (shown (valueOf (a .answer))) (negative (numberOf (a .answer)))) l lent ≡ face l (asks c) lent
-      by z true h = sym (shows f bytes (asks c) lent q (eqb-true (numberOf (a .answer)) 0 h) leaves (z .0) ∙ ap (faceOf (shown (valueOf (a .answer))) l) (z .1))
-      by z false h = sym (face-is f (asks c) lent q (z .0) ∙ rw h)
+      none : answerBytes (valueOf (a .answer)) ≡ []
+      none = unnamed (a .answer) k
+
+      fits : idTooLong (valueOf (a .answer)) (length lent) ≡ false
+      fits = rw none (none-fits lent)
+
+      by : (t : Bool) → eqb (numberOf (a .answer)) 0 ≡ t → faceOf (cond t (shown (valueOf (a .answer))) (negative (numberOf (a .answer)))) l lent ≡ face l (asks c) lent
+      by true h =
+          sym (shows f bytes (asks c) lent q (eqb-true (numberOf (a .answer)) 0 h) leaves fits
+          ∙ ap (λ (v : List ℕ). faceOf (shown (valueOf (a .answer))) l (over v lent)) none)
+      by false h = sym (face-is f (asks c) lent q fits ∙ rw h)
 
 -- a holder, by what the call left
 module _ {l : List ℕ} {b : Loaded} (f : Formed l b) (c : ℕ) (lent : List ℕ) (a : Answered) (q : outcomeOf a [] [] ≡ call (b .schedule) (ask c)) {i : Id} (e : a .answer ≡ Holder i) where
-  named : record { number = 0; value = holder (i .value); state = a .schedule; bytes = []; records = [] } ≡ call (b .schedule) (ask c)
+  named : record { number = 0; value = holder (idNumber i); state = a .schedule; bytes = []; records = [] } ≡ call (b .schedule) (ask c)
   named = ap (λ (x : Answer). outcomeOf (record { answer = x; schedule = a .schedule }) [] []) (sym e) ∙ q
 
-  pub asked-long : length lent < 8 → {r : ℕ} → r ≡ negative 13 → faceOf r l lent ≡ face l (asks c) lent
-  unfolding face
-  asked-long h p = rw (p, accepted-image f (ask c) named refl, ← of-image f (ask c) named, lt-ltb (length lent) 8 h)
+  long : (n : ℕ) → ltb (length lent) idSize ≡ ltb (length lent) (length (big idSize n))
+  long n = rw (big-length idSize n)
 
-  pub asked-holder : Bytes l → 8 ≤ length lent → {m : List ℕ} → m ≡ putAt 8 0 (i .value) lent → faceOf 1 l m ≡ face l (asks c) lent
+  pub asked-long : length lent < idSize → {r : ℕ} → r ≡ negative 13 → faceOf r l lent ≡ face l (asks c) lent
+  unfolding face
+  asked-long h p = rw (p, accepted-image f (ask c) named refl, ← of-image f (ask c) named, sym (long (idNumber i)) ∙ lt-ltb (length lent) idSize h)
+
+  pub asked-holder : Bytes l → idSize ≤ length lent → {m : List ℕ} → m ≡ putAt idSize 0 (idNumber i) lent → faceOf 1 l m ≡ face l (asks c) lent
   asked-holder bytes h p =
-      ap (faceOf 1 l) (p ∙ put-inside 8 0 lent (i .value) h)
-      ∙ sym (shows f bytes (asks c) lent named refl (ap (λ (o : Outcome). o .state) named ∙ ask-leaves (b .schedule) c) (le-ltb (length lent) 8 h))
+      ap (faceOf 1 l) (p ∙ put-inside idSize 0 lent (idNumber i) h)
+      ∙ sym (shows f bytes (asks c) lent named refl (ap (λ (o : Outcome). o .state) named ∙ ask-leaves (b .schedule) c) (sym (long (idNumber i)) ∙ le-ltb (length lent) idSize h))
 
 -- List.
 
@@ -104,31 +118,31 @@ unfolding flat
 flat-records [] = refl
 flat-records (h ∷ hs) = ap (_++_ (entryBytes h)) (flat-records hs)
 
--- the held events stand in an image from byte 57 on
-held-bytes : (s : Schedule) → sound s ≡ true → take (46 * s .count) (drop 57 (image s)) ≡ flat entryBytes (view s .entries)
+-- the held events stand in an image behind clock, count and programs
+held-bytes : (s : Schedule) → sound s ≡ true → take (entrySize * s .count) (drop entriesAt (image s)) ≡ flat entryBytes (view s .entries)
 unfolding sound
 held-bytes s e =
     let hs = view s .entries in
     let rest = drop (s .count) (s .entries) in
-    let size = flat-length entryBytes 46 entry-size hs ∙ ap (_*_ 46) (length-take-le (s .count) (s .entries) (omega (arith, rules s e .full, rules s e .count))) in
+    let size = flat-length entryBytes entrySize entry-size hs ∙ ap (_*_ entrySize) (length-take-le (s .count) (s .entries) (omega (arith, rules s e .full, rules s e .count))) in
     let all = ap (flat entryBytes) (sym (take-append-drop (s .count) (s .entries))) ∙ flat-append entryBytes hs rest in
-    ap (take (46 * s .count)) (at-entries s (each-true (whole s) _ e .0) ∙ append-nil (flat entryBytes (s .entries)) ∙ all)
-    ∙ take-at (flat entryBytes hs) (flat entryBytes rest) (46 * s .count) size
+    ap (take (entrySize * s .count)) (at-entries s (each-true (whole s) _ e .0) ∙ append-nil (flat entryBytes (s .entries)) ∙ all)
+    ∙ take-at (flat entryBytes hs) (flat entryBytes rest) (entrySize * s .count) size
 
 module _ {l : List ℕ} {b : Loaded} (f : Formed l b) (lent : List ℕ) (e : sound (b .schedule) ≡ true) where
-  pub listed-short : length lent / 46 < b .schedule .count → {r : ℕ} → r ≡ negative 13 → faceOf r l lent ≡ face l lists lent
+  pub listed-short : length lent / entrySize < b .schedule .count → {r : ℕ} → r ≡ negative 13 → faceOf r l lent ≡ face l lists lent
   listed-short h p =
       ap (λ (r : ℕ). faceOf r l lent) p
-      ∙ sym (face-is f lists lent (lists-short (b .schedule) e (length lent / 46) h .leaves _ (length-replicate (length lent / 46) (recordOf noEntry))) refl)
+      ∙ sym (face-is f lists lent (lists-short (b .schedule) e (length lent / entrySize) h .leaves _ (length-replicate (length lent / entrySize) (recordOf noEntry))) (none-fits lent))
 
-  pub listed-all : Bytes l → b .schedule .count ≤ length lent / 46 → {m : List ℕ} → m ≡ over (take (46 * b .schedule .count) (drop 57 l)) lent
+  pub listed-all : Bytes l → b .schedule .count ≤ length lent / entrySize → {m : List ℕ} → m ≡ over (take (entrySize * b .schedule .count) (drop entriesAt l)) lent
       → faceOf (b .schedule .count) l m ≡ face l lists lent
   listed-all bytes h p =
       let s = b .schedule in
-      let k = length lent / 46 in
+      let k = length lent / entrySize in
       let old = replicate k (recordOf noEntry) in
       let q = lists-all s e k h .leaves old (length-replicate k (recordOf noEntry)) in
       let front : (r : List Record) → take (s .count) (over (held s) r) ≡ held s = λ r. take-at (held s) (drop (length (held s)) r) (s .count) (held-count s e) in
       let written = ap (λ (r : List Record). flat (λ (r : Record). entryBytes (r .entry)) (take (s .count) (over r old))) (front noRecords) ∙ ap (flat (λ (r : Record). entryBytes (r .entry))) (front old) ∙ flat-records (view s .entries) in
-      let copied = ap (λ (i : List ℕ). take (46 * s .count) (drop 57 i)) (sym (is-image f bytes)) ∙ held-bytes s e in
-      ap (faceOf (s .count) l) (p ∙ ap (λ (x : List ℕ). over x lent) (copied ∙ sym written)) ∙ sym (shows f bytes lists lent q refl refl refl)
+      let copied = ap (λ (i : List ℕ). take (entrySize * s .count) (drop entriesAt i)) (sym (is-image f bytes)) ∙ held-bytes s e in
+      ap (faceOf (s .count) l) (p ∙ ap (λ (x : List ℕ). over x lent) (copied ∙ sym written)) ∙ sym (shows f bytes lists lent q refl refl (none-fits lent))

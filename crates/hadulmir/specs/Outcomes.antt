@@ -1,17 +1,17 @@
 -- Frames and image: what load, store and the operations of a C host return and leave behind.
-use Prim.Native.Nat.{ℕ}
+use mathlib.Core.Path.{_≡_}
+use Prim.Native.Nat.{ℕ, _≤_}
 use mathlib.Core.Bool.{cond, _&&_}
 use mathlib.Core.List.{List}
 use lib.Dec.{eqb}
 use lib.ListN.{length}
-use Rattle.rules.specs.declared.Event.{Event}
 use Rattle.rules.specs.declared.Schedule.{Schedule}
 use Rattle.rules.specs.declared.Answer.{Answer}
 use Rattle.rules.specs.declared.Answer.the-variants.{Refused, Code}
-use Rattle.rules.specs.Records.{fresh, pad}
+use Rattle.rules.specs.Records.{mostRows, fresh, pad}
 use Rattle.rules.specs.Sound.{sound}
 use Rattle.rules.specs.Image.{imageSize, image, loaded, imaged}
-use Rattle.rules.specs.Calls.{numberOf, valueOf}
+use Rattle.rules.specs.Calls.{numberOf, valueOf, counted}
 use Rattle.rules.specs.Face.{shown, negative, FaceOutcome}
 use Rattle.calls.specs.declared.Answered.{Answered}
 use Rattle.hadulmir.specs.declared.Opened.{Opened}
@@ -28,21 +28,10 @@ storeOutcome s l = cond (sound s && eqb (length l) imageSize) (Code 0, image s) 
 abbrev pub faceOf : ℕ → List ℕ → List ℕ → FaceOutcome
 faceOf r l lent = record { returned = r; image = l; lent = lent }
 
--- an event from its fields, in their order
-abbrev pub eventOf : (id program controls created start duration randomizeStart randomizeDuration startDraw durationDraw : ℕ) → Event
-eventOf id program controls created start duration randomizeStart randomizeDuration startDraw durationDraw =
-    record {
-      id = record { value = id };
-      program = program;
-      controls = controls;
-      created = created;
-      start = start;
-      duration = duration;
-      «randomize_start» = randomizeStart;
-      «randomize_duration» = randomizeDuration;
-      «start_draw» = startDraw;
-      «duration_draw» = durationDraw;
-    }
+-- an answer that counts no more rows than there can be, and a buffer of an image's length
+pub record MayStore (a : Answer) (image : List ℕ) : Type 0 where
+  pub few : counted (valueOf a) ≤ mostRows
+  pub size : length image ≡ imageSize
 
 -- an answer as one number, a refusal as its negative
 unfoldable pub returnedFor : Answer → ℕ

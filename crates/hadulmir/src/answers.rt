@@ -1,17 +1,16 @@
 // What an operation returns for an answer, and when it stores.
 ghost use mathlib.Core.Path.{_≡_};
 ghost use Prim.Native.Nat.{_<_, _≤_};
-ghost use lib.ListN.{length};
-ghost use Rattle.rules.specs.Image.{imageSize};
+ghost use Rattle.rules.specs.Records.{mostRows};
 ghost use Rattle.rules.specs.Calls.{valueOf, counted};
 ghost use Rattle.rules.specs.Face.{shown, negative};
-ghost use Rattle.hadulmir.specs.Outcomes.{returnedFor, finished};
+ghost use Rattle.hadulmir.specs.Outcomes.{MayStore, returnedFor, finished};
 use calls::Answered;
 use rules::Answer;
 
 // An answer that is no refusal as one number.
 fn shown(answer: Answer) -> u32
-    requires { ⌜ counted (valueOf answer) ≤ 96 ⌝ }
+    requires { ⌜ counted (valueOf answer) ≤ mostRows ⌝ }
     ensures { λ r. ⌜ r ≡ shown (valueOf answer) ⌝ }
 {
     match answer {
@@ -34,7 +33,7 @@ pub(crate) fn negative(n: u8) -> u32
 
 // What an operation returns for an answer.
 pub(crate) fn returned(answer: Answer) -> u32
-    requires { ⌜ counted (valueOf answer) ≤ 96 ⌝ }
+    requires { ⌜ counted (valueOf answer) ≤ mostRows ⌝ }
     ensures { λ r. ⌜ r ≡ returnedFor answer ⌝ }
 {
     let n = answer.number();
@@ -46,7 +45,7 @@ pub(crate) fn returned(answer: Answer) -> u32
 
 // The end of an operation that changes the schedule. An accepted one is stored.
 pub(crate) fn finish(a: Answered, image: &mut [u8]) -> u32
-    requires { ⌜ (counted (valueOf (a .answer)) ≤ 96) × (length (now image) ≡ imageSize) ⌝ }
+    requires { ⌜ MayStore (a .answer) (now image) ⌝ }
     ensures { λ r. ⌜ (r, now (image .exit)) ≡ finished a (now (image .entry)) ⌝ }
 {
     let answer = a.answer;

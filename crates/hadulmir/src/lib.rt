@@ -3,12 +3,14 @@
 // makes no call. A number that is returned is an answer, or the two's complement of a refusal's negative; a refused operation leaves every byte.
 ghost use mathlib.Core.Path.{_≡_};
 ghost use mathlib.Core.List.{[]};
+ghost use Rattle.rules.specs.Records.{eventOf};
 ghost use Rattle.rules.specs.Face.{addsProgram, delivers, cancels, setsClock, asks, lists, face, faceFresh};
-ghost use Rattle.hadulmir.specs.Outcomes.{loadOutcome, storeOutcome, faceOf, eventOf};
+ghost use Rattle.hadulmir.specs.Outcomes.{loadOutcome, storeOutcome, faceOf};
 
 mod answers;
 
 use rules::Answer;
+use rules::Entry;
 use rules::Event;
 use rules::Id;
 use rules::Schedule;
@@ -109,7 +111,7 @@ pub extern "C" fn hadulmir_deliver(
     }
     let s = read.schedule;
     let e = Event {
-        id: Id { value: id },
+        id: Id::of(id),
         program,
         controls,
         created,
@@ -133,7 +135,7 @@ pub extern "C" fn hadulmir_cancel(image: &mut [u8], id: u64) -> u32
         return answers::negative(2);
     }
     let s = read.schedule;
-    answers::finish(calls::cancel(s, Id { value: id }), image)
+    answers::finish(calls::cancel(s, Id::of(id)), image)
 }
 
 // Calls, set the clock. The rows go over the front of `rows`.
@@ -164,14 +166,14 @@ pub extern "C" fn hadulmir_ask(image: &[u8], control: u8, id: &mut [u8]) -> u32
     let Answer::Holder(holder) = answer else {
         return answers::returned(answer);
     };
-    if id.len() < 8 {
+    if id.len() < Id::SIZE {
         return answers::negative(13);
     }
-    octets::put(id, 0, 8, holder.value);
+    octets::put_id(id, 0, holder);
     1
 }
 
-// Calls, list. The 46 bytes of each held event go over the front of `records`: they stand in an accepted image from byte 57 on.
+// Calls, list. The bytes of each held event go over the front of `records`, as they stand in an accepted image.
 #[no_mangle]
 pub extern "C" fn hadulmir_list(image: &[u8], records: &mut [u8]) -> u32
     ensures { λ r. ⌜ faceOf r (now (image .exit)) (now (records .exit)) ≡ face (now (image .entry)) lists (now (records .entry)) ⌝ }
@@ -185,9 +187,9 @@ pub extern "C" fn hadulmir_list(image: &[u8], records: &mut [u8]) -> u32
         return answers::negative(2);
     }
     let n = s.count;
-    if records.len() / 46 < n {
+    if records.len() / Entry::SIZE < n {
         return answers::negative(13);
     }
-    octets::copy(records, &image[57..], 46 * n);
+    octets::copy(records, &image[Schedule::ENTRIES_AT..], Entry::SIZE * n);
     n as u32
 }

@@ -1,3 +1,3 @@
 -- What belongs to no one function.
-pub mod InRows
-pub mod Whole
+pub mod InRows  -- things in a row, read and written
+pub mod Whole  -- the parts of an image one after the other

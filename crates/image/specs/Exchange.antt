@@ -1,13 +1,19 @@
 -- What is read from bytes, and what is written into a buffer.
-use Prim.Native.Nat.{ℕ}
+use Prim.Native.Nat.{ℕ, _+_, _*_, _≤_, _<_}
 use mathlib.Core.Bool.{Bool, true, false, cond}
 use mathlib.Core.List.{List}
 use lib.Dec.{eqb}
 use lib.ListN.{length}
 use Rattle.rules.specs.declared.Schedule.{Schedule}
 use Rattle.rules.specs.Records.{fresh, pad}
+use Rattle.rules.specs.Bytes.{entrySize}
 use Rattle.rules.specs.Image.{imageSize, image, loaded, formed}
 use Rattle.image.specs.declared.Loaded.{Loaded}
+
+-- n marks, k bytes from one to the next, stand in a list from `at` on
+pub record MarksInside (k n at : ℕ) (l : List ℕ) : Type 0 where
+  pub step : k ≤ entrySize
+  pub last : at + k * n < length l + k
 
 -- of bytes that are no image: the fresh schedule
 abbrev pub noImage : Loaded

@@ -5,7 +5,24 @@ ghost use Rattle.image.specs.Exchange.{noImage, readOf, writtenTo};
 mod reading;
 mod writing;
 
+use rules::Entry;
+use rules::Event;
+use rules::Program;
 use rules::Schedule;
+
+// Where the count of events stands in an image, and the mark of the first.
+const COUNT: usize = 8;
+
+const FIRST_MARK: usize = Schedule::ENTRIES_AT + Entry::MARK;
+
+// Where primacy and defaults stand in a program entry, and effective start and held mask in an event entry.
+const PRIMACY: usize = 1;
+
+const DEFAULTS: usize = 2;
+
+const BEGINS: usize = Event::SIZE;
+
+const HELD: usize = Event::SIZE + 8;
 
 // What bytes are as an image: whether they keep its length and its marks, and if so the schedule in them.
 pub struct Loaded {
@@ -17,13 +34,13 @@ pub struct Loaded {
 pub fn read(b: &[u8]) -> Loaded
     ensures { λ r. ⌜ r ≡ readOf (now (b .entry)) ⌝ }
 {
-    if b.len() != 2265 {
+    if b.len() != Schedule::SIZE {
         return no_image();
     }
-    if !reading::is_marked(b, 6, 8, 9) {
+    if !reading::is_marked(b, Program::SIZE, Schedule::PROGRAMS, Schedule::PROGRAMS_AT) {
         return no_image();
     }
-    if !reading::is_marked(b, 46, 48, 102) {
+    if !reading::is_marked(b, Entry::SIZE, Schedule::EVENTS, FIRST_MARK) {
         return no_image();
     }
     Loaded {
@@ -46,14 +63,14 @@ fn no_image() -> Loaded
 pub fn write(s: Schedule, out: &mut [u8]) -> bool
     ensures { λ r. ⌜ (r, now (out .exit)) ≡ writtenTo s (now (out .entry)) ⌝ }
 {
-    if out.len() != 2265 {
+    if out.len() != Schedule::SIZE {
         return false;
     }
-    octets::put(out, 0, 8, s.clock);
-    octets::put(out, 8, 1, s.count as u64);
     let programs = s.programs;
-    writing::put_programs(out, programs);
     let entries = s.entries;
+    octets::put8(out, 0, s.clock);
+    octets::put(out, COUNT, 1, s.count as u64);
+    writing::put_programs(out, programs);
     writing::put_entries(out, entries);
     true
 }

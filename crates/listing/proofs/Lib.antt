@@ -1,2 +1,2 @@
 -- What belongs to no one function.
-pub mod Recorded
+pub mod Recorded  -- the records of the held events

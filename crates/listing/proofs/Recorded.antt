@@ -7,14 +7,15 @@ use native.Mathlib.Omega.{arith}
 use lib.ListN.{length, take, drop, getD, set, length-map, List·getD-map}
 use lib.Seq.{getD-take, take-at, take-all}
 use borrow.Author.Tests.{lt-ltb, le-ltb}
+use Rattle.rules.specs.declared.Entry.{Entry}
 use Rattle.rules.specs.declared.Record.{Record}
 use Rattle.rules.specs.declared.Schedule.{Schedule}
 use Rattle.rules.specs.declared.Answer.the-variants.{Refused, Count}
 use Rattle.rules.specs.Lists.{over}
-use Rattle.rules.specs.Records.{noEntry, view}
+use Rattle.rules.specs.Records.{view}
 use Rattle.rules.specs.Sound.{sound}
 use Rattle.rules.specs.Refusals.{listChecks}
-use Rattle.rules.specs.Calls.{Outcome, recordOf, list, count, does, checks, call}
+use Rattle.rules.specs.Calls.{Outcome, recordOf, list, count, does, checks}
 use Rattle.rules.proofs.SoundState.{rules, pad-view, in-count}
 use Rattle.rules.proofs.CallLaws.{done}
 use Rattle.listing.specs.Listed.{noRecords, Lists}
@@ -34,11 +35,11 @@ module _ (s : Schedule) where
     held-count = length-map (view s .entries) recordOf ∙ in-count s e
 
     -- one record more
-    pub recorded-more : (i : ℕ) → i < s .count
-        → set (take i held ++ drop i noRecords) i (recordOf (getD (s .entries) i noEntry)) ≡ take (i + 1) held ++ drop (i + 1) noRecords
-    recorded-more i l =
-        ap (λ r. set (take i held ++ drop i noRecords) i r) (sym (List·getD-map recordOf (view s .entries) i noEntry ∙ ap recordOf (getD-take (s .count) (s .entries) i noEntry l)))
-        ∙ copied-more (recordOf noEntry) noRecords held i (omega (arith, rules s e .count)) (omega (arith, held-count))
+    pub recorded-more : (i : ℕ) (d : Entry) → i < s .count → {b : List Record} → b ≡ take i held ++ drop i noRecords
+        → set b i (recordOf (getD (s .entries) i d)) ≡ take (i + 1) held ++ drop (i + 1) noRecords
+    recorded-more i d l q =
+        ap₂ (λ b r. set b i r) q (sym (List·getD-map recordOf (view s .entries) i d ∙ ap recordOf (getD-take (s .count) (s .entries) i d l)))
+        ∙ copied-more (recordOf d) noRecords held i (omega (arith, rules s e .count)) (omega (arith, held-count))
 
     pub recorded-all : take (s .count) held ++ drop (s .count) noRecords ≡ over held noRecords
     recorded-all = copied-all noRecords held (s .count) (omega (arith, held-count)) ∙ ap (λ r. over r noRecords) (take-all (s .count) held (omega (arith, held-count)))

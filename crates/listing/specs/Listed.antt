@@ -9,7 +9,7 @@ use Rattle.rules.specs.Lists.{over}
 use Rattle.rules.specs.Records.{mostEvents, noEntry}
 use Rattle.rules.specs.Calls.{Outcome, numberOf, valueOf, recordOf, list, call}
 use Rattle.listing.specs.declared.AnsweredList.{AnsweredList}
-use Rattle.listing.specs.declared.records.Written.{Written}
+use Rattle.listing.specs.declared.records.Gathered.{Gathered}
 use Rattle.calls.specs.Answered.{outcomeOf}
 
 -- a list of empty records, one for each event that can be held
@@ -21,7 +21,7 @@ abbrev pub listedOutcome : AnsweredList → Outcome
 listedOutcome r = record { number = numberOf (r .answer); value = valueOf (r .answer); state = r .schedule; bytes = []; records = r .records }
 
 -- the first `count` records fit into the lent list, written over its front they are what the call leaves, and the others are empty
-pub record Lists (s : Schedule) (room : ℕ) (r : Written) : Type 0 where
+pub record Lists (s : Schedule) (room : ℕ) (r : Gathered) : Type 0 where
   pub fits : r .count ≤ room
   pub few : r .count ≤ mostEvents
   pub rest : r .records ≡ over (take (r .count) (r .records)) noRecords

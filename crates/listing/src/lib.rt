@@ -19,7 +19,7 @@ pub struct AnsweredList {
     pub schedule: Schedule,
 }
 
-// Calls, list: a record for each held event by ascending id, over the front of 48 empty records, and their count as the answer.
+// Calls, list: a record for each held event by ascending id, over the front of empty records, and their count as the answer.
 pub fn listed(s: Schedule) -> AnsweredList
     ensures { λ r. ⌜ listedOutcome r ≡ call s (list noRecords) ⌝ }
 {

@@ -14,7 +14,7 @@ use rules::Record;
 use rules::Schedule;
 
 // How many records are to be written, and in which places they stand. A refused call writes none.
-pub(crate) struct Written {
+pub(crate) struct Gathered {
     pub(crate) count: usize,
     pub(crate) records: [Record; Schedule::EVENTS],
     pub(crate) answered: Answered,
@@ -45,7 +45,7 @@ fn records_of(s: Schedule) -> [Record; Schedule::EVENTS]
 }
 
 // What the call does to a lent list with `room` places.
-pub(crate) fn listing(s: Schedule, room: usize) -> Written
+pub(crate) fn listing(s: Schedule, room: usize) -> Gathered
     ensures { λ r. ⌜ Lists s room r ⌝ }
 {
     let none = no_records();
@@ -54,7 +54,7 @@ pub(crate) fn listing(s: Schedule, room: usize) -> Written
             answer: Answer::Refused(2),
             schedule: s,
         };
-        return Written {
+        return Gathered {
             count: 0,
             records: none,
             answered,
@@ -66,7 +66,7 @@ pub(crate) fn listing(s: Schedule, room: usize) -> Written
             answer: Answer::Refused(13),
             schedule: s,
         };
-        return Written {
+        return Gathered {
             count: 0,
             records: none,
             answered,
@@ -77,7 +77,7 @@ pub(crate) fn listing(s: Schedule, room: usize) -> Written
         answer: Answer::Count(count),
         schedule: s,
     };
-    Written {
+    Gathered {
         count,
         records,
         answered,

@@ -4,7 +4,14 @@ use libc::STDOUT_FILENO;
 use rules::Answer;
 use rules::Event;
 use rules::Id;
+use rules::ROW_SIZE;
+use rules::ROWS_SIZE;
 use rules::Schedule;
+
+// The last byte of a row, and the bytes of a buffer that two rows do not fit.
+const ROW_END: usize = ROW_SIZE - 1;
+
+const SHORT: usize = 2 * ROW_SIZE - 1;
 
 fn word(text: &[u8], n: u64) {
     io::write_all(STDOUT_FILENO, text);
@@ -19,7 +26,7 @@ fn show(r: Answered) -> Schedule {
         Answer::Refused(n) => word(b"refused ", n as u64),
         Answer::Code(k) => word(b"code ", k as u64),
         Answer::Count(n) => word(b"count ", n as u64),
-        Answer::Holder(id) => word(b"event ", id.value),
+        Answer::Holder(id) => word(b"event ", id.number()),
         Answer::Default(p) => word(b"default ", p as u64),
         Answer::Nobody => {
             io::write_all(STDOUT_FILENO, b"nobody\n");
@@ -38,7 +45,7 @@ fn show_rows(buffer: &[u8], count: usize) {
             return;
         }
         io::print_hex(STDOUT_FILENO, buffer[i] as u64, 2);
-        if i % 17 == 16 {
+        if i % ROW_SIZE == ROW_END {
             io::write_all(STDOUT_FILENO, b"\n");
             left -= 1;
         }
@@ -48,7 +55,7 @@ fn show_rows(buffer: &[u8], count: usize) {
 
 // Sets the clock, and shows the rows and then the answer.
 fn read_clock(s: Schedule, reading: u64) -> Schedule {
-    let mut buffer = [0u8; 1632];
+    let mut buffer = [0u8; ROWS_SIZE];
     let r = calls::set_clock(s, reading, &mut buffer);
     let answer = r.answer;
     if let Answer::Count(n) = answer {
@@ -60,7 +67,7 @@ fn read_clock(s: Schedule, reading: u64) -> Schedule {
 // Id, program, controls, creation time, start, duration; nothing drawn.
 fn event(id: u64, program: u8, controls: u32, created: u32, start: u32, duration: u32) -> Event {
     let mut e = Event::none();
-    let handle = Id { value: id };
+    let handle = Id::of(id);
     e.id = handle;
     e.program = program;
     e.controls = controls;
@@ -106,8 +113,8 @@ fn bench() {
     s = read_clock(s, 6300);
     s = show(calls::ask(s, 0));
     s = show(calls::ask(s, 1));
-    s = show(calls::cancel(s, Id { value: 2 }));
-    s = show(calls::cancel(s, Id { value: 2 }));
+    s = show(calls::cancel(s, Id::of(2)));
+    s = show(calls::cancel(s, Id::of(2)));
     s = show(calls::ask(s, 1));
     read_clock(s, 9_000_000_000);
 }
@@ -126,9 +133,9 @@ fn refusals() {
     s = show(calls::deliver(s, event(1, 1, 1, 0, 5000, 600)));
     s = show(calls::deliver(s, event(1, 1, 1, 0, 5000, 600)));
     s = show(calls::deliver(s, event(1, 1, 1, 0, 5000, 601)));
-    s = show(calls::cancel(s, Id { value: 9 }));
+    s = show(calls::cancel(s, Id::of(9)));
     s = read_clock(s, 9_000_000_001);
-    let mut short = [0u8; 33];
+    let mut short = [0u8; SHORT];
     s = show(calls::set_clock(s, 5600, &mut short));
     s = read_clock(s, 5600);
     s = show(calls::deliver(s, event(1, 1, 1, 0, 5000, 600)));

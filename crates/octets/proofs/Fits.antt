@@ -1,4 +1,4 @@
--- A number whose bytes are all there is read and written, and bytes that are all there are copied; any others are not. What is read fits.
+-- A number, an id or an event whose bytes are all there is read and written, and bytes that are all there are copied; any others are not. What is read fits.
 use mathlib.Core.Path.{_≡_, refl}
 use Prim.Native.Nat.{ℕ, _+_, _^_, _<_, _≤_}
 use mathlib.Core.Bool.{Bool, true, false, cond, _&&_, and-false}
@@ -8,11 +8,13 @@ use native.Mathlib.Nat.{pow-le-pow-right}
 use borrow.Author.Tests.{le-leb, lt-leb, leb-true}
 use lib.Dec.{leb}
 use lib.ListN.{length, take}
+use Rattle.rules.specs.declared.Event.{Event}
 use Rattle.rules.specs.Lists.{over, overAt}
-use Rattle.rules.specs.Bytes.{big, read}
+use Rattle.rules.specs.Records.{idSize, idFrom, noEvent}
+use Rattle.rules.specs.Bytes.{big, read, idAt, eventSize, eventAt, eventBytes}
 use Rattle.rules.proofs.Numbers.{Bytes, read-below}
 use Rattle.rules.proofs.Copying.{over-length}
-use Rattle.octets.specs.Octets.{getAt, putAt, copied}
+use Rattle.octets.specs.Octets.{getAt, putAt, getId, getEvent, putEvent, copied}
 
 module _ (n at : ℕ) (l : List ℕ) where
   pub get-inside : n ≤ 8 → at + n ≤ length l → getAt n at l ≡ read n at l
@@ -30,6 +32,36 @@ module _ (n at : ℕ) (l : List ℕ) where
   pub put-outside : (x : ℕ) → length l < at + n → putAt n at x l ≡ l
   unfolding putAt
   put-outside x h = rw (lt-leb (at + n) (length l) h)
+
+module _ (at : ℕ) (l : List ℕ) where
+  pub id-inside : at + idSize ≤ length l → getId at l ≡ idAt at l
+  unfolding getId
+  id-inside h = rw (le-leb (at + idSize) (length l) h)
+
+  -- as a number that is read
+  pub id-read : idFrom (getAt 8 at l) ≡ getId at l
+  unfolding getAt getId
+  id-read = by (leb (at + idSize) (length l))
+    where
+      by : (b : Bool) → idFrom (cond b (read idSize at l) 0) ≡ cond b (idAt at l) (idFrom 0)
+      by true = refl
+      by false = refl
+
+  pub event-inside : at + eventSize ≤ length l → getEvent at l ≡ eventAt at l
+  unfolding getEvent
+  event-inside h = rw (le-leb (at + eventSize) (length l) h)
+
+  pub event-outside : length l < at + eventSize → getEvent at l ≡ noEvent
+  unfolding getEvent
+  event-outside h = rw (lt-leb (at + eventSize) (length l) h)
+
+  pub put-event-inside : (e : Event) → at + eventSize ≤ length l → putEvent at e l ≡ overAt at (eventBytes e) l
+  unfolding putEvent
+  put-event-inside e h = rw (le-leb (at + eventSize) (length l) h)
+
+  pub put-event-outside : (e : Event) → length l < at + eventSize → putEvent at e l ≡ l
+  unfolding putEvent
+  put-event-outside e h = rw (lt-leb (at + eventSize) (length l) h)
 
 module _ (n : ℕ) (from to : List ℕ) where
   pub copy-inside : n ≤ length from → n ≤ length to → copied n from to ≡ over (take n from) to

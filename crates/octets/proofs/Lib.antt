@@ -1,3 +1,4 @@
 -- What belongs to no one function.
-pub mod Fits
-pub mod Writes
+pub mod Joins  -- a number read in two parts
+pub mod Fits  -- what is all there, and what is not
+pub mod Writes  -- what is written one behind the other

@@ -5,27 +5,28 @@ use mathlib.Core.List.{List, [], _∷_, _++_, append-assoc}
 use native.Mathlib.Omega.{arith}
 use lib.ListN.{length, take, drop, set, length-set, length-append, take-append-drop}
 use lib.Seq.{set-split, drop-drop, take-set-le, length-take-le, drop-at}
+use Rattle.rules.specs.declared.Event.{Event}
 use Rattle.rules.specs.Lists.{overAt}
-use Rattle.rules.specs.Bytes.{big}
+use Rattle.rules.specs.Bytes.{big, eventSize, eventBytes}
 use Rattle.rules.proofs.Numbers.{big-length}
 use Rattle.rules.proofs.Over.{over-none, over-then, over-size}
-use Rattle.octets.specs.Octets.{putAt}
-use Rattle.octets.proofs.Fits.{put-inside}
+use Rattle.octets.specs.Octets.{putAt, putEvent}
+use Rattle.octets.proofs.Fits.{put-inside, put-event-inside}
 
 stored : (l : List ℕ) (k a : ℕ) → k < length l → drop k (set l k a) ≡ a ∷ drop (suc k) l
 stored l k a h = rw (set-split l k a h) (drop-at (take k l) (a ∷ drop (suc k) l) k (length-take-le k l (omega arith)))
 
 -- of the n bytes of x the last ones stand in the slice, and those of `rest`, i of them, are still to be written
-pub record Left (old : List ℕ) (at n x : ℕ) (new : List ℕ) (rest i : ℕ) : Type 0 where
+pub record NumberLeft (old : List ℕ) (at n x : ℕ) (new : List ℕ) (rest i : ℕ) : Type 0 where
   pub size : length new ≡ length old
   pub front : take at new ≡ take at old
   pub back : big i rest ++ drop (at + i) new ≡ big n x ++ drop (at + n) old
 
-pub left-all : (l : List ℕ) (at n x : ℕ) → Left l at n x l x n
+pub left-all : (l : List ℕ) (at n x : ℕ) → NumberLeft l at n x l x n
 left-all l at n x = record { size = refl; front = refl; back = refl }
 
 module _ {old : List ℕ} {at n x : ℕ} {new : List ℕ} {rest : ℕ} where
-  pub left-less : (i : ℕ) → 0 < i → at + i ≤ length old → Left old at n x new rest i → Left old at n x (set new (at + (i - 1)) (rest % 256)) (rest / 256) (i - 1)
+  pub left-less : (i : ℕ) → 0 < i → at + i ≤ length old → NumberLeft old at n x new rest i → NumberLeft old at n x (set new (at + (i - 1)) (rest % 256)) (rest / 256) (i - 1)
   unfolding big
   left-less zero p h l = absurd (omega arith)
   left-less (suc i) p h l =
@@ -38,13 +39,17 @@ module _ {old : List ℕ} {at n x : ℕ} {new : List ℕ} {rest : ℕ} where
         back = rw (stored new (at + i) (rest % 256) (omega (arith, l .size))) (rw (f, append-assoc) at (l .back));
       })
 
-  pub left-none : at + n ≤ length old → Left old at n x new rest 0 → new ≡ overAt at (big n x) old
+  pub left-none : at + n ≤ length old → NumberLeft old at n x new rest 0 → new ≡ overAt at (big n x) old
   unfolding big
   left-none h l =
       let z : at + 0 ≡ at = omega arith in
       let back : drop at new ≡ big n x ++ drop (at + n) old = rw z at (l .back) in
       let e : at + length (big n x) ≡ at + n = omega (arith, big-length n x) in
       sym (take-append-drop at new) ∙ rw (l .front, back, drop-drop, e)
+
+event-size : (e : Event) → length (eventBytes e) ≡ eventSize
+unfolding eventBytes big
+event-size e = refl
 
 -- vs stand in a slice from `at` on
 pub record Wrote (old : List ℕ) (at : ℕ) (vs new : List ℕ) : Type 0 where
@@ -54,7 +59,10 @@ pub record Wrote (old : List ℕ) (at : ℕ) (vs new : List ℕ) : Type 0 where
 pub wrote-none : (l : List ℕ) (at : ℕ) → at ≤ length l → Wrote l at [] l
 wrote-none l at h = record { room = omega arith; is = sym (over-none at l) }
 
--- and one list more, or the bytes of one number more
+pub same-size : {old : List ℕ} {at : ℕ} {vs new : List ℕ} → Wrote old at vs new → length new ≡ length old
+same-size {old} {at} {vs} w = ap length (w .is) ∙ over-size at vs old (w .room)
+
+-- and one list more, or the bytes of one number or one event more
 module _ {old : List ℕ} {at : ℕ} {vs new : List ℕ} (w : Wrote old at vs new) (next : ℕ) (e : next ≡ at + length vs) {m : List ℕ} where
   pub also : (ws : List ℕ) → next + length ws ≤ length old → m ≡ overAt next ws new → Wrote old at (vs ++ ws) m
   also ws h q = record {
@@ -63,6 +71,7 @@ module _ {old : List ℕ} {at : ℕ} {vs new : List ℕ} (w : Wrote old at vs ne
   }
 
   pub then : (n x : ℕ) → next + n ≤ length old → m ≡ putAt n next x new → Wrote old at (vs ++ big n x) m
-  then n x h q =
-      let s : length new ≡ length old = ap length (w .is) ∙ over-size at vs old (w .room) in
-      also (big n x) (omega (arith, big-length n x)) (q ∙ put-inside n next new x (omega (arith, s)))
+  then n x h q = also (big n x) (omega (arith, big-length n x)) (q ∙ put-inside n next new x (omega (arith, same-size w)))
+
+  pub then-event : (v : Event) → next + eventSize ≤ length old → m ≡ putEvent next v new → Wrote old at (vs ++ eventBytes v) m
+  then-event v h q = also (eventBytes v) (omega (arith, event-size v)) (q ∙ put-event-inside next new v (omega (arith, same-size w)))

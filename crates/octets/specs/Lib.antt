@@ -1,2 +1,2 @@
--- A number in a slice, read and written; bytes copied.
+-- A number and an event in a slice, read and written; bytes copied.
 pub mod Octets

@@ -1,6 +1,31 @@
-// Bytes in a slice: numbers, the most significant byte first, and copies. Each function takes every place and every width.
+// Bytes in a slice: numbers, the most significant byte first, ids, events, and copies. Each function takes every place and every width.
 ghost use mathlib.Core.Path.{_≡_};
-ghost use Rattle.octets.specs.Octets.{getAt, putAt, copied};
+ghost use Rattle.rules.specs.Records.{idSize, idNumber};
+ghost use Rattle.octets.specs.Octets.{getAt, putAt, getId, getEvent, putEvent, copied};
+
+mod numbers;
+
+use rules::Event;
+use rules::Id;
+
+// Where the fields of an event stand behind its id.
+const PROGRAM: usize = Id::SIZE;
+
+const CONTROLS: usize = Id::SIZE + 1;
+
+const CREATED: usize = Id::SIZE + 5;
+
+const START: usize = Id::SIZE + 9;
+
+const DURATION: usize = Id::SIZE + 13;
+
+const RANDOMIZE_START: usize = Id::SIZE + 17;
+
+const RANDOMIZE_DURATION: usize = Id::SIZE + 19;
+
+const START_DRAW: usize = Id::SIZE + 21;
+
+const DURATION_DRAW: usize = Id::SIZE + 23;
 
 // The number in the n bytes from `at`; 0 if they are more than 8 or not all there.
 pub fn get(b: &[u8], at: usize, n: usize) -> u64
@@ -42,6 +67,88 @@ pub fn put(b: &mut [u8], at: usize, n: usize, x: u64)
         b[at + i] = (rest % 256) as u8;
         rest /= 256;
     }
+}
+
+// The same of 8 bytes, without a loop.
+pub fn put8(b: &mut [u8], at: usize, x: u64)
+    ensures { λ _. ⌜ now (b .exit) ≡ putAt 8 at x (now (b .entry)) ⌝ }
+{
+    if b.len() < 8 {
+        return;
+    }
+    if b.len() - 8 < at {
+        return;
+    }
+    numbers::put_u64(b, at, x);
+}
+
+// The id whose bytes stand at `at`; id 0 if they are not all there.
+pub fn get_id(b: &[u8], at: usize) -> Id
+    ensures { λ r. ⌜ r ≡ getId at (now (b .entry)) ⌝ }
+{
+    Id::of(get(b, at, Id::SIZE))
+}
+
+// Writes the bytes of an id from `at` on; leaves the slice alone if there is no room for them all.
+pub fn put_id(out: &mut [u8], at: usize, id: Id)
+    ensures { λ _. ⌜ now (out .exit) ≡ putAt idSize at (idNumber id) (now (out .entry)) ⌝ }
+{
+    put8(out, at, id.number());
+}
+
+// The event whose bytes stand at `at`; one with all fields zero if they are not all there.
+pub fn get_event(b: &[u8], at: usize) -> Event
+    ensures { λ r. ⌜ r ≡ getEvent at (now (b .entry)) ⌝ }
+{
+    if b.len() < Event::SIZE {
+        return Event::none();
+    }
+    if b.len() - Event::SIZE < at {
+        return Event::none();
+    }
+    Event {
+        id: get_id(b, at),
+        program: numbers::u8_at(b, at + PROGRAM),
+        controls: numbers::u32_at(b, at + CONTROLS),
+        created: numbers::u32_at(b, at + CREATED),
+        start: numbers::u32_at(b, at + START),
+        duration: numbers::u32_at(b, at + DURATION),
+        randomize_start: numbers::u16_at(b, at + RANDOMIZE_START),
+        randomize_duration: numbers::u16_at(b, at + RANDOMIZE_DURATION),
+        start_draw: numbers::u16_at(b, at + START_DRAW),
+        duration_draw: numbers::u16_at(b, at + DURATION_DRAW),
+    }
+}
+
+// Writes the bytes of an event from `at` on; leaves the slice alone if there is no room for them all.
+pub fn put_event(out: &mut [u8], at: usize, e: Event)
+    ensures { λ _. ⌜ now (out .exit) ≡ putEvent at e (now (out .entry)) ⌝ }
+{
+    if out.len() < Event::SIZE {
+        return;
+    }
+    if out.len() - Event::SIZE < at {
+        return;
+    }
+    put_id(out, at, e.id);
+    put(out, at + PROGRAM, 1, e.program as u64);
+    numbers::put_four(
+        out,
+        at + CONTROLS,
+        4,
+        e.controls,
+        e.created,
+        e.start,
+        e.duration,
+    );
+    numbers::put_u16s(
+        out,
+        at + RANDOMIZE_START,
+        e.randomize_start,
+        e.randomize_duration,
+        e.start_draw,
+        e.duration_draw,
+    );
 }
 
 // Copies the first n bytes of `from` over the front of `to`; leaves `to` alone if either has fewer.

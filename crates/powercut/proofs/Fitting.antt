@@ -20,7 +20,7 @@ use Rattle.rules.specs.Holding.{holdingAt, withHolding}
 use Rattle.rules.specs.Moments.{lasts, entriesFrom, second, advance}
 use Rattle.rules.specs.Sound.{sound}
 use Rattle.rules.specs.Refusals.{find}
-use Rattle.rules.specs.Calls.{Call, addProgram, deliver, cancel, setClock, ask, list, entryId, entry, mark, receive, programOf, does, refusal, accepts, accepted, refused, call, run}
+use Rattle.rules.specs.Calls.{program, event, cancellation, question, Call, bare, setClock, list, entryId, entry, mark, receive, programOf, does, refusal, accepts, accepted, refused, call, run}
 use Rattle.rules.specs.Arrival.{after}
 use Rattle.rules.specs.Clauses.{ImageKept}
 use Rattle.rules.proofs.ListLaws.{in-keep, all-map, in-insert, in-set, in-append, in-take, in-replicate}
@@ -80,14 +80,14 @@ module _ (s : State) (f : FitsState s) where
 
   fits-does : (c : Call) → Fits c → FitsState (does s c .state)
   unfolding does
-  fits-does (addProgram n p d) g = record {
+  fits-does (bare (program n p d)) g = record {
     programs = λ q m. ⊎-elim (λ e. rw e (record { primacy = g .1; defaults = g .2 })) (λ k. f .programs q k) (in-set q (programOf p d) n (s .programs) m);
     events = f .events;
   }
-  fits-does (deliver e) g = fits-receive e g (find (idOf e) (s .entries))
-  fits-does (cancel i) g = record { programs = f .programs; events = all-map (λ h. FitsEvent (h .event)) (mark i) (s .entries) (f .events) }
+  fits-does (bare (event e)) g = fits-receive e g (find (idOf e) (s .entries))
+  fits-does (bare (cancellation i)) g = record { programs = f .programs; events = all-map (λ h. FitsEvent (h .event)) (mark i) (s .entries) (f .events) }
   fits-does (setClock t b) g = fits-advance (t - s .clock) s f
-  fits-does (ask c) g = f
+  fits-does (bare (question c)) g = f
   fits-does (list r) g = f
 
 -- a schedule that keeps the rules and whose fields fit

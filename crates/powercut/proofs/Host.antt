@@ -11,37 +11,41 @@ use Rattle.rules.specs.declared.Schedule.{Schedule}
 use Rattle.rules.specs.Lists.{All}
 use Rattle.rules.specs.Records.{view, fresh, pad}
 use Rattle.rules.specs.Sound.{sound}
-use Rattle.rules.specs.Calls.{ask, does, accepts, accepted, refused, call, run}
+use Rattle.rules.specs.Calls.{program, event, cancellation, question, Call, bare, setClock, ask, list, does, accepts, accepted, refused, call, run}
 use Rattle.rules.specs.Arrival.{after}
 use Rattle.rules.specs.Image.{imageSize, image, loaded, formed, imaged}
-use Rattle.rules.specs.Face.{Operation, addsProgram, delivers, cancels, setsClock, asks, lists, asCall, idTooLong, face, faceFresh}
+use Rattle.rules.specs.Face.{Operation, asCall, idTooLong, face, faceFresh}
 use Rattle.rules.proofs.Tests.{both}
 use Rattle.rules.proofs.ListLaws.{all-map}
 use Rattle.rules.proofs.SoundState.{pad-view}
 use Rattle.rules.proofs.CallLaws.{call-clauses}
-use Rattle.rules.proofs.FaceLaws.{face-clauses}
+use Rattle.rules.proofs.FaceLaws.{isQuestion, id-fits, face-clauses}
 use Rattle.powercut.specs.PowerCut.{Fits, Lending, byValue, hostRun, SeenByHost, HostRun}
 use Rattle.powercut.proofs.Fitting.{Storable, storable-call, storable-fresh, storable-after, stored}
 
 -- a question changes nothing
-asked : (s : Schedule) → sound s ≡ true → (c : ℕ) → call s (ask c) .state ≡ s
+asked : (s : Schedule) → sound s ≡ true → (c : Call) → isQuestion c ≡ true → call s c .state ≡ s
 unfolding call does
-asked s e c = go (accepts s (ask c))
+asked s e (bare (program n p d)) q = both false q refl
+asked s e (bare (event v)) q = both false q refl
+asked s e (bare (cancellation i)) q = both false q refl
+asked s e (bare (question c)) q = go (accepts s (ask c))
   where
     go : (b : Bool) → cond b (accepted (does (view s) (ask c))) (refused s (ask c)) .state ≡ s
     go true = pad-view s e
     go false = refl
+asked s e (setClock t b) q = both false q refl
+asked s e (list r) q = both false q refl
 
 module _ (lent : List ℕ) where
   -- only a question can lack room for an id
-  questioned : (s : Schedule) → sound s ≡ true → (op : Operation) → idTooLong op (call s (asCall op lent) .value) (length lent) ≡ true
+  questioned : (s : Schedule) → sound s ≡ true → (op : Operation) → idTooLong (call s (asCall op lent) .value) (length lent) ≡ true
       → call s (asCall op lent) .state ≡ s
-  questioned s e (addsProgram n p d) i = both false i refl
-  questioned s e (delivers v) i = both false i refl
-  questioned s e (cancels k) i = both false i refl
-  questioned s e (setsClock t) i = both false i refl
-  questioned s e (asks c) i = asked s e c
-  questioned s e lists i = both false i refl
+  questioned s e op i = go (isQuestion (asCall op lent)) refl
+    where
+      go : (b : Bool) → isQuestion (asCall op lent) ≡ b → call s (asCall op lent) .state ≡ s
+      go true q = asked s e (asCall op lent) q
+      go false q = both false (sym (id-fits s (asCall op lent) q (length lent)) ∙ i) refl
 
   -- on an image that is accepted, of the schedule in it
   seen-loaded : (l : List ℕ) → imaged l ≡ true → (op : Operation) → SeenByHost l (loaded l) op lent
@@ -58,9 +62,9 @@ module _ (lent : List ℕ) where
 
     -- the image that an operation leaves is that of the schedule that the call leaves
     host-step : face (image s) op lent .image ≡ image (call s (asCall op lent) .state)
-    host-step = go (eqb (call s (asCall op lent) .number) 0) refl (idTooLong op (call s (asCall op lent) .value) (length lent)) refl
+    host-step = go (eqb (call s (asCall op lent) .number) 0) refl (idTooLong (call s (asCall op lent) .value) (length lent)) refl
       where
-        go : (b : Bool) → eqb (call s (asCall op lent) .number) 0 ≡ b → (r : Bool) → idTooLong op (call s (asCall op lent) .value) (length lent) ≡ r
+        go : (b : Bool) → eqb (call s (asCall op lent) .number) 0 ≡ b → (r : Bool) → idTooLong (call s (asCall op lent) .value) (length lent) ≡ r
             → face (image s) op lent .image ≡ image (call s (asCall op lent) .state)
         go true n false i = ap (λ o. o .image) (seen .accepted (eqb-true _ 0 n) i)
         go true n true i = let q = seen .no-room (eqb-true _ 0 n) i in ap (λ o. o .image) (q .0) ∙ ap image (sym (q .1))

@@ -7,8 +7,8 @@ use lib.ListN.{length}
 use Rattle.rules.specs.declared.Event.{Event}
 use Rattle.rules.specs.declared.Schedule.{Schedule}
 use Rattle.rules.specs.Lists.{All}
-use Rattle.rules.specs.Records.{idOf}
-use Rattle.rules.specs.Calls.{Call, addProgram, deliver, cancel, setClock, ask, list, call, run, joined}
+use Rattle.rules.specs.Records.{idLimit, idOf}
+use Rattle.rules.specs.Calls.{program, event, cancellation, question, Call, bare, setClock, list, call, run, joined}
 use Rattle.rules.specs.Arrival.{after}
 use Rattle.rules.specs.Image.{imageSize, image, loaded}
 use Rattle.rules.specs.Face.{Operation, asCall, idTooLong, shown, negative, lentAfter, face, faceFresh}
@@ -16,7 +16,7 @@ use Rattle.rules.specs.Clauses.{ImageKept}
 
 -- Records, event: each field fits its width
 pub record FieldsFit (e : Event) : Type 0 where
-  pub id : idOf e < 2 ^ 64
+  pub id : idOf e < idLimit
   pub program : e .program < 2 ^ 8
   pub controls : e .controls < 2 ^ 32
   pub created : e .created < 2 ^ 32
@@ -29,11 +29,11 @@ pub record FieldsFit (e : Event) : Type 0 where
 
 -- Calls: each number that is given to the call fits its width. What is lent may hold anything.
 abbrev pub Fits : Call → Type 0
-Fits (addProgram number primacy defaults) = (number < 2 ^ 8) × (primacy < 2 ^ 8) × (defaults < 2 ^ 32)
-Fits (deliver e) = FieldsFit e
-Fits (cancel id) = id < 2 ^ 64
+Fits (bare (program number primacy defaults)) = (number < 2 ^ 8) × (primacy < 2 ^ 8) × (defaults < 2 ^ 32)
+Fits (bare (event e)) = FieldsFit e
+Fits (bare (cancellation id)) = id < idLimit
+Fits (bare (question control)) = control < 2 ^ 8
 Fits (setClock reading buffer) = reading < 2 ^ 64
-Fits (ask control) = control < 2 ^ 8
 Fits (list records) = Unit {0}
 
 -- Call lists: one schedule goes on as another does, whatever calls follow
@@ -61,14 +61,14 @@ hostRun l (x ∷ xs) = hostRun (face l (x .operation) (x .lent) .image) xs
 -- Frames and image, C hosts: on the image l an operation gives what its call by value gives on the schedule s
 pub record SeenByHost (l : List ℕ) (s : Schedule) (op : Operation) (lent : List ℕ) : Type 0 where
   -- an accepted call: its answer, the image of the schedule that it leaves, and what it wrote
-  pub accepted : call s (asCall op lent) .number ≡ 0 → idTooLong op (call s (asCall op lent) .value) (length lent) ≡ false
+  pub accepted : call s (asCall op lent) .number ≡ 0 → idTooLong (call s (asCall op lent) .value) (length lent) ≡ false
       → face l op lent
       ≡ record { returned = shown (call s (asCall op lent) .value); image = image (call s (asCall op lent) .state); lent = lentAfter op (call s (asCall op lent)) lent }
   -- a refused call: the negative of its number, and no byte changed
   pub refused : (call s (asCall op lent) .number ≡ 0 → ⊥)
       → face l op lent ≡ record { returned = negative (call s (asCall op lent) .number); image = l; lent = lent }
   -- a question whose holder's id does not fit: 13, and no byte changed; by value the question changes nothing either
-  pub no-room : call s (asCall op lent) .number ≡ 0 → idTooLong op (call s (asCall op lent) .value) (length lent) ≡ true
+  pub no-room : call s (asCall op lent) .number ≡ 0 → idTooLong (call s (asCall op lent) .value) (length lent) ≡ true
       → (face l op lent ≡ record { returned = negative 13; image = l; lent = lent }) × (call s (asCall op lent) .state ≡ s)
 
 -- Frames and image, C hosts: operations from the fresh image, which is written into the buffer b

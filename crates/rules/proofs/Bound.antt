@@ -13,7 +13,7 @@ use Rattle.rules.specs.declared.Entry.{Entry}
 use Rattle.rules.specs.declared.Program.{Program}
 use Rattle.rules.specs.declared.Schedule.{Schedule}
 use Rattle.rules.specs.Lists.{keep}
-use Rattle.rules.specs.Records.{State, view}
+use Rattle.rules.specs.Records.{State, view, mostRows}
 use Rattle.rules.specs.Holding.{claim, Holding, holdingAt, withHolding, endOf}
 use Rattle.rules.specs.Rows.{codeAt, rowOf, rowsWith, rowsFrom, rowsAt, ending, superseded, starting}
 use Rattle.rules.specs.Moments.{lasts, entriesFrom, Moved, second, advance, passed}
@@ -50,16 +50,16 @@ left-two t begins held = go (ltb t begins)
 
 module _ (t : ℕ) (h : Entry) (now : Holding) (nothing : claim (suc t) h ≡ 0 → now .held ≡ 0) where
   -- no more rows than the moment takes off what was left
-  abbrev Step : Type 0
-  Step = any (codeAt (suc t) h now) + left (suc t) (h .begins) (now .held) ≤ left t (h .begins) (h .held)
+  abbrev Fewer : Type 0
+  Fewer = any (codeAt (suc t) h now) + left (suc t) (h .begins) (now .held) ≤ left t (h .begins) (h .held)
 
-  early : suc t < h .begins → Step
+  early : suc t < h .begins → Fewer
   early l = rw (code-early (suc t) h now l, lt-ltb (suc t) (h .begins) l, lt-ltb t (h .begins) (omega arith)) (omega arith)
 
-  first : suc t ≡ h .begins → Step
+  first : suc t ≡ h .begins → Fewer
   first e = rw (le-ltb (suc t) (h .begins) (omega arith), lt-ltb t (h .begins) (omega arith)) (omega (arith, any-one (codeAt (suc t) h now), any-one (now .held)))
 
-  later : h .begins ≤ t → Step
+  later : h .begins ≤ t → Fewer
   unfolding codeAt claim
   later l = rw (le-ltb t (h .begins) l, le-ltb (suc t) (h .begins) (omega arith), other) (go (eqb (h .held) 0) (eqb (now .held) 0) refl refl)
     where
@@ -82,10 +82,10 @@ module _ (t : ℕ) (h : Entry) (now : Holding) (nothing : claim (suc t) h ≡ 0 
       go false true p q = omega (arith, any-one (cond dead 0 (cond (eqb (endOf h) (suc t)) 3 7)))
       go false false p q = rw (ne-eqb (endOf h) (suc t) (λ e. eqb-false (now .held) 0 q (ended-none e)), cond-same) (omega arith)
 
-  step : Step
+  step : Fewer
   step = go (ltb t (h .begins)) refl
     where
-      go : (b : Bool) → ltb t (h .begins) ≡ b → Step
+      go : (b : Bool) → ltb t (h .begins) ≡ b → Fewer
       go true p = ⊎-elim first early (eq-or-lt-of-le (ltb-true t (h .begins) p))
       go false p = later (ltb-false t (h .begins) p)
 
@@ -197,5 +197,5 @@ total-two : (t : ℕ) (hs : List Entry) → total t hs ≤ 2 * length hs
 total-two t [] = omega arith
 total-two t (h ∷ hs) = omega (arith, left-two t (h .begins) (h .held), total-two t hs)
 
-pub few-rows : (s : Schedule) → sound s ≡ true → (reading : ℕ) → length (passed (view s) reading .rows) ≤ 96
+pub few-rows : (s : Schedule) → sound s ≡ true → (reading : ℕ) → length (passed (view s) reading .rows) ≤ mostRows
 few-rows s e reading = omega (arith, advance-less (reading - s .clock) (view s), total-two (s .clock) (view s .entries), sound-view s e .room)

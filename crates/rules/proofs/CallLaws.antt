@@ -14,12 +14,12 @@ use Rattle.rules.specs.declared.Entry.{Entry}
 use Rattle.rules.specs.declared.Record.{Record}
 use Rattle.rules.specs.declared.Schedule.{Schedule}
 use Rattle.rules.specs.Lists.{each, In, Pairwise}
-use Rattle.rules.specs.Records.{State, idOf, lastClock, programAt, view, pad}
+use Rattle.rules.specs.Records.{State, idOf, lastClock, programAt, view, pad, mostEvents}
 use Rattle.rules.specs.Moments.{advance, passed}
-use Rattle.rules.specs.Bytes.{bytes, flat}
+use Rattle.rules.specs.Bytes.{bytes, flat, rowSize}
 use Rattle.rules.specs.Sound.{malformed, sameEvent, sound}
 use Rattle.rules.specs.Refusals.{Check, firstOf, find, programChecks, eventChecks, cancelChecks, clockChecks, askChecks, listChecks}
-use Rattle.rules.specs.Calls.{Call, addProgram, deliver, cancel, setClock, ask, list, code, count, entryId, withEntries, mark, cancelCode, does, checks, refusal, accepts, accepted, refused, lentBytes, lentList, call}
+use Rattle.rules.specs.Calls.{program, event, cancellation, question, Call, bare, deliver, cancel, setClock, list, code, count, entryId, withEntries, mark, cancelCode, does, checks, refusal, accepts, accepted, refused, lentBytes, lentList, call}
 use Rattle.rules.specs.Clauses.{Fit, CallClauses}
 use Rattle.rules.proofs.Tests.{each-true, first-not}
 use Rattle.rules.proofs.SoundState.{Sound, ById, same-event, view-pad, sound-pad, sound-view, pad-view, rules}
@@ -70,11 +70,11 @@ not-given (c ∷ cs) e z = let r = each-true (not (eqb (c .number) 2)) _ e in go
 
 pub not-two : (s : State) (c : Call) → firstOf (checks s c) ≡ 2 → ⊥
 unfolding checks programChecks eventChecks cancelChecks clockChecks askChecks listChecks
-not-two s (addProgram n p d) e = not-given (programChecks s n p) refl e
-not-two s (deliver v) e = not-given (eventChecks s v (find (idOf v) (s .entries))) refl e
-not-two s (cancel i) e = not-given (cancelChecks (find i (s .entries))) refl e
+not-two s (bare (program n p d)) e = not-given (programChecks s n p) refl e
+not-two s (bare (event v)) e = not-given (eventChecks s v (find (idOf v) (s .entries))) refl e
+not-two s (bare (cancellation i)) e = not-given (cancelChecks (find i (s .entries))) refl e
+not-two s (bare (question k)) e = not-given (askChecks k) refl e
 not-two s (setClock t b) e = not-given (clockChecks (s .clock) t (length (passed s t .rows)) (length b)) refl e
-not-two s (ask k) e = not-given (askChecks k) refl e
 not-two s (list r) e = not-given (listChecks (length (s .entries)) (length r)) refl e
 
 -- an accepted call on a sound schedule
@@ -140,7 +140,7 @@ cancelled-again s i e z =
 
 -- Numbers 10 and 13.
 
-full : (s : Schedule) (d : Event) → sound s ≡ true → call s (deliver d) .number ≡ 10 ↔ ((length (view s .entries) ≡ 48) × Fit (view s) d)
+full : (s : Schedule) (d : Event) → sound s ≡ true → call s (deliver d) .number ≡ 10 ↔ ((length (view s .entries) ≡ mostEvents) × Fit (view s) d)
 unfolding checks
 full s d e =
     let r = ten (view s) d in (
@@ -149,7 +149,7 @@ full s d e =
     )
 
 too-short : (s : Schedule) (t : ℕ) (b : List ℕ) → sound s ≡ true
-    → call s (setClock t b) .number ≡ 13 ↔ ((s .clock ≤ t) × (t ≤ lastClock) × (length b < 17 * length (passed (view s) t .rows)))
+    → call s (setClock t b) .number ≡ 13 ↔ ((s .clock ≤ t) × (t ≤ lastClock) × (length b < rowSize * length (passed (view s) t .rows)))
 unfolding checks
 too-short s t b e =
     let r = short-buffer (s .clock) t (length (passed (view s) t .rows)) (length b) in
@@ -166,7 +166,7 @@ unfolding checks clockChecks does advance flat
 same-reading s b e =
     let z : s .clock - s .clock ≡ 0 = omega arith in
     done s e (setClock (s .clock) b)
-    (rw (le-ltb (s .clock) (s .clock) (omega arith), le-ltb lastClock (s .clock) (rules s e .clock), z, le-ltb (length b) (17 * length (advance 0 (view s) .rows)) (omega arith)))
+    (rw (le-ltb (s .clock) (s .clock) (omega arith), le-ltb lastClock (s .clock) (rules s e .clock), z, le-ltb (length b) (rowSize * length (advance 0 (view s) .rows)) (omega arith)))
     ∙ rw z (ap (λ y. record { number = 0; value = count 0; state = y; bytes = b; records = [] }) (pad-view s e))
 
 pub call-clauses : CallClauses

@@ -93,30 +93,30 @@ module _ (t : ℕ) (h : Entry) (now : Holding) where
 
   -- The cases.
 
-  data Told : Type 0 where
-    silent : codeAt t h now ≡ 0 → Told
-    starts : codeAt t h now ≡ 2 → Starts → Told
-    ends : codeAt t h now ≡ 3 → Ends → Told
-    loses : codeAt t h now ≡ 7 → Loses → Told
+  data GivenCode : Type 0 where
+    silent : codeAt t h now ≡ 0 → GivenCode
+    starts : codeAt t h now ≡ 2 → Starts → GivenCode
+    ends : codeAt t h now ≡ 3 → Ends → GivenCode
+    loses : codeAt t h now ≡ 7 → Loses → GivenCode
 
-  told : Told
+  told : GivenCode
   told =
       go (h .cancelled) (ltb (endOf h) t) (ltb t (h .begins)) (eqb (endOf h) t) (eqb (h .begins) t) (eqb (h .held) 0) (eqb (now .held) 0) refl refl refl refl refl refl refl
     where
-      starting : Starts → Told
+      starting : Starts → GivenCode
       starting v = starts (code-starts v) v
 
-      ending : Ends → Told
+      ending : Ends → GivenCode
       ending v = ends (code-ends v) v
 
-      losing : Loses → Told
+      losing : Loses → GivenCode
       losing v = loses (code-loses v) v
 
       lasting : ltb (endOf h) t ≡ false → eqb (endOf h) t ≡ false → t < endOf h
       lasting o f = let l = ltb-false (endOf h) t o in let n = eqb-false (endOf h) t f in omega arith
 
       go : (gone over early end start old new : Bool) → h .cancelled ≡ gone → ltb (endOf h) t ≡ over → ltb t (h .begins) ≡ early
-          → eqb (endOf h) t ≡ end → eqb (h .begins) t ≡ start → eqb (h .held) 0 ≡ old → eqb (now .held) 0 ≡ new → Told
+          → eqb (endOf h) t ≡ end → eqb (h .begins) t ≡ start → eqb (h .held) 0 ≡ old → eqb (now .held) 0 ≡ new → GivenCode
       go true over early end start old new g o e f b d n = silent (code-cancelled t h now g)
       go false true early end start old new g o e f b d n = silent (code-ended t h now (ltb-true (endOf h) t o))
       go false false true end start old new g o e f b d n = silent (code-early t h now (ltb-true t (h .begins) e))
@@ -137,7 +137,7 @@ module _ (t : ℕ) (h : Entry) (now : Holding) where
   pub is-start : codeAt t h now ≡ 2 → Starts
   is-start e = go told
     where
-      go : Told → Starts
+      go : GivenCode → Starts
       go (silent z) = absurd (eqb-false 0 2 refl (sym z ∙ e))
       go (starts z v) = v
       go (ends z v) = absurd (eqb-false 3 2 refl (sym z ∙ e))
@@ -146,7 +146,7 @@ module _ (t : ℕ) (h : Entry) (now : Holding) where
   pub is-end : codeAt t h now ≡ 3 → Ends
   is-end e = go told
     where
-      go : Told → Ends
+      go : GivenCode → Ends
       go (silent z) = absurd (eqb-false 0 3 refl (sym z ∙ e))
       go (starts z v) = absurd (eqb-false 2 3 refl (sym z ∙ e))
       go (ends z v) = v
@@ -155,7 +155,7 @@ module _ (t : ℕ) (h : Entry) (now : Holding) where
   pub is-loss : codeAt t h now ≡ 7 → Loses
   is-loss e = go told
     where
-      go : Told → Loses
+      go : GivenCode → Loses
       go (silent z) = absurd (eqb-false 0 7 refl (sym z ∙ e))
       go (starts z v) = absurd (eqb-false 2 7 refl (sym z ∙ e))
       go (ends z v) = absurd (eqb-false 3 7 refl (sym z ∙ e))
@@ -164,7 +164,7 @@ module _ (t : ℕ) (h : Entry) (now : Holding) where
   pub one-of-four : (codeAt t h now ≡ 0) ⊎ ((codeAt t h now ≡ 2) ⊎ ((codeAt t h now ≡ 3) ⊎ (codeAt t h now ≡ 7)))
   one-of-four = go told
     where
-      go : Told → (codeAt t h now ≡ 0) ⊎ ((codeAt t h now ≡ 2) ⊎ ((codeAt t h now ≡ 3) ⊎ (codeAt t h now ≡ 7)))
+      go : GivenCode → (codeAt t h now ≡ 0) ⊎ ((codeAt t h now ≡ 2) ⊎ ((codeAt t h now ≡ 3) ⊎ (codeAt t h now ≡ 7)))
       go (silent z) = inl z
       go (starts z v) = inr (inl z)
       go (ends z v) = inr (inr (inl z))

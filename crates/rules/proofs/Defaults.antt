@@ -28,9 +28,9 @@ module _ (c : ℕ) where
     pub best : (m : ℕ) → Offers ps c m → Ahead ps r k m
 
   -- what is said of the best of the programs numbered from n on
-  abbrev Found : ℕ → List Program → Option Ranked → Type 0
-  Found n ps none = (m : ℕ) → Offers ps c m → ⊥
-  Found n ps (some r) = (k : ℕ) × BestFrom n ps k r
+  abbrev BestFound : ℕ → List Program → Option Ranked → Type 0
+  BestFound n ps none = (m : ℕ) → Offers ps c m → ⊥
+  BestFound n ps (some r) = (k : ℕ) × BestFrom n ps k r
 
   -- A program before the others.
 
@@ -66,19 +66,19 @@ module _ (c : ℕ) where
     no-worse : (k : ℕ) (q : Ranked) → BestFrom (suc n) ps k q → p .primacy ≤ q .primacy → (m : ℕ) → Offers ps c m → p .primacy ≤ programAt ps m .primacy
     no-worse k q v l m o = ⊎-elim (λ d. omega arith) (λ r. omega (arith, r .0)) (v .best m o)
 
-    add : (b : Bool) → (p .added && has (p .defaults) c) ≡ b → (o : Option Ranked) → Found (suc n) ps o → Found n (p ∷ ps) (bestOf (cond b (some here) none) o)
+    add : (b : Bool) → (p .added && has (p .defaults) c) ≡ b → (o : Option Ranked) → BestFound (suc n) ps o → BestFound n (p ∷ ps) (bestOf (cond b (some here) none) o)
     add false e none f = nobody (λ o. both (p .added && has (p .defaults) c) (cc (o .1, o .2)) e) f
     add false e (some q) v = (suc (v .0), later (v .0) q (v .1) (λ o. both (p .added && has (p .defaults) c) (cc (o .1, o .2)) e))
     add true e none f = let r = each-true (p .added) (has (p .defaults) c) e in (0, first (omega arith, r .0, r .1) (λ m o. absurd (f m o)))
     add true e (some q) v = go (leb (p .primacy) (q .primacy)) refl
       where
-        go : (d : Bool) → leb (p .primacy) (q .primacy) ≡ d → Found n (p ∷ ps) (cond d (some here) (some q))
+        go : (d : Bool) → leb (p .primacy) (q .primacy) ≡ d → BestFound n (p ∷ ps) (cond d (some here) (some q))
         go true g =
             let r = each-true (p .added) (has (p .defaults) c) e in
             (0, first (omega arith, r .0, r .1) (no-worse (v .0) q (v .1) (leb-true (p .primacy) (q .primacy) g)))
         go false g = (suc (v .0), later (v .0) q (v .1) (λ o. leb-false (p .primacy) (q .primacy) g))
 
-  found : (n : ℕ) (ps : List Program) → Found n ps (bestDefault c n ps)
+  found : (n : ℕ) (ps : List Program) → BestFound n ps (bestDefault c n ps)
   unfolding bestDefault
   found n [] = λ m o. omega (arith, o .0)
   found n (p ∷ ps) = add n p ps (p .added && has (p .defaults) c) refl (bestDefault c (suc n) ps) (found (suc n) ps)
@@ -88,7 +88,7 @@ module _ (c : ℕ) where
   module _ (ps : List Program) where
     best-is : (r : Ranked) → bestDefault c 0 ps ≡ some r → BestOffer ps c r
     best-is r e =
-        let f = subst (Found 0 ps) e (found 0 ps) in
+        let f = subst (BestFound 0 ps) e (found 0 ps) in
         let v : BestFrom 0 ps (r .number) r = subst (λ k. BestFrom 0 ps k r) (omega (arith, f .1 .number)) (f .1) in
         record { offers = v .offers; primacy = v .primacy; best = v .best }
 
@@ -105,19 +105,19 @@ module _ (c : ℕ) where
     is-best : (r : Ranked) → BestOffer ps c r → bestDefault c 0 ps ≡ some r
     is-best r b = go (bestDefault c 0 ps) (found 0 ps)
       where
-        go : (o : Option Ranked) → Found 0 ps o → o ≡ some r
+        go : (o : Option Ranked) → BestFound 0 ps o → o ≡ some r
         go none f = absurd (f (r .number) (b .offers))
         go (some q) f = ap some (one (f .0) q r (f .1) b)
 
     none-is : ((n : ℕ) → Offers ps c n → ⊥) → bestDefault c 0 ps ≡ none
     none-is f = go (bestDefault c 0 ps) (found 0 ps)
       where
-        go : (o : Option Ranked) → Found 0 ps o → o ≡ none
+        go : (o : Option Ranked) → BestFound 0 ps o → o ≡ none
         go none g = refl
         go (some q) g = absurd (f (g .0) (g .1 .offers))
 
 pub default-clause : DefaultClause
 default-clause = record {
   best = λ ps c r. (best-is c ps r, is-best c ps r);
-  nobody = λ ps c. (λ e. subst (Found c 0 ps) e (found c 0 ps), none-is c ps);
+  nobody = λ ps c. (λ e. subst (BestFound c 0 ps) e (found c 0 ps), none-is c ps);
 }

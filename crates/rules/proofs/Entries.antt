@@ -9,13 +9,14 @@ use lib.Dec.{eqb}
 use lib.ListN.{length, drop}
 use Rattle.rules.specs.declared.Event.{Event}
 use Rattle.rules.specs.declared.Entry.{Entry}
-use Rattle.rules.specs.Records.{idOf, noEntry}
-use Rattle.rules.specs.Bytes.{big, read, eventAt, eventBytes, entryAt, entryBytes, flag}
-use Rattle.rules.proofs.Numbers.{Bytes, read-big, read-drop, piece, Inverse}
+use Rattle.rules.specs.Records.{idSize, idLimit, idOf, noEvent, noEntry}
+use Rattle.rules.specs.Bytes.{big, read, eventAt, eventBytes, entryAt, entryBytes, flag, eventSize, entrySize, markAt}
+use Rattle.rules.proofs.IdLaws.{number-id, zero-id, id-number}
+use Rattle.rules.proofs.Numbers.{Bytes, read-below, read-big, read-drop, piece, Inverse}
 
 -- each field fits its width
 pub record FitsEvent (e : Event) : Type 0 where
-  pub id : idOf e < 256 ^ 8
+  pub id : idOf e < idLimit
   pub program : e .program < 256 ^ 1
   pub controls : e .controls < 256 ^ 4
   pub created : e .created < 256 ^ 4
@@ -33,9 +34,9 @@ pub record FitsEntry (h : Entry) : Type 0 where
 
 -- a place that is not in use
 pub none-fits : FitsEntry noEntry
-none-fits = search needs
+none-fits = let zero : idOf noEvent ≡ 0 = zero-id in search needs
 
-pub entry-size : (h : Entry) → length (entryBytes h) ≡ 46
+pub entry-size : (h : Entry) → length (entryBytes h) ≡ entrySize
 unfolding entryBytes eventBytes big
 entry-size h = refl
 
@@ -44,7 +45,8 @@ pub event-of-bytes : (e : Event) → FitsEvent e → (r : List ℕ) → eventAt 
 unfolding eventAt eventBytes read big
 event-of-bytes e f r =
     rw (
-      read-big 8 (idOf e) (f .id),
+      read-big idSize (idOf e) (f .id),
+      id-number (e .id),
       read-big 1 (e .program) (f .program),
       read-big 4 (e .controls) (f .controls),
       read-big 4 (e .created) (f .created),
@@ -90,30 +92,30 @@ flag-byte (suc (suc x)) h = absurd (omega arith)
 
 module _ (l : List ℕ) (b : Bytes l) where
   -- bytes are those of the event that they are
-  pub event-piece : 33 ≤ length l → eventBytes (eventAt 0 l) ++ drop 33 l ≡ l
+  pub event-piece : eventSize ≤ length l → eventBytes (eventAt 0 l) ++ drop eventSize l ≡ l
   unfolding eventAt eventBytes
   event-piece h =
-      simp append-assoc
+      simp (append-assoc, number-id (read idSize 0 l) (read-below l b idSize 0))
       (rw (
-        piece l b 2 31 (omega arith),
-        piece l b 2 29 (omega arith),
-        piece l b 2 27 (omega arith),
-        piece l b 2 25 (omega arith),
-        piece l b 4 21 (omega arith),
-        piece l b 4 17 (omega arith),
-        piece l b 4 13 (omega arith),
-        piece l b 4 9 (omega arith),
-        piece l b 1 8 (omega arith),
-        piece l b 8 0 (omega arith),
+        piece l b 2 (idSize + 23) (omega arith),
+        piece l b 2 (idSize + 21) (omega arith),
+        piece l b 2 (idSize + 19) (omega arith),
+        piece l b 2 (idSize + 17) (omega arith),
+        piece l b 4 (idSize + 13) (omega arith),
+        piece l b 4 (idSize + 9) (omega arith),
+        piece l b 4 (idSize + 5) (omega arith),
+        piece l b 4 (idSize + 1) (omega arith),
+        piece l b 1 idSize (omega arith),
+        piece l b idSize 0 (omega arith),
       ))
 
   -- and of the entry, if the mark is 0 or 1
-  pub entry-piece : 46 ≤ length l → read 1 45 l ≤ 1 → entryBytes (entryAt 0 l) ++ drop 46 l ≡ l
+  pub entry-piece : entrySize ≤ length l → read 1 markAt l ≤ 1 → entryBytes (entryAt 0 l) ++ drop entrySize l ≡ l
   unfolding entryAt entryBytes
   entry-piece h m =
-      simp (append-assoc, flag-byte (read 1 45 l) m)
-      (rw (piece l b 1 45 (omega arith), piece l b 4 41 (omega arith), piece l b 8 33 (omega arith), event-piece (omega arith)))
+      simp (append-assoc, flag-byte (read 1 markAt l) m)
+      (rw (piece l b 1 markAt (omega arith), piece l b 4 (eventSize + 8) (omega arith), piece l b 8 eventSize (omega arith), event-piece (omega arith)))
 
-pub entry-inverse : Inverse FitsEntry entryAt entryBytes 46 45
+pub entry-inverse : Inverse FitsEntry entryAt entryBytes entrySize markAt
 unfolding entryBytes eventBytes read big
 entry-inverse = record { size = entry-size; marks = λ h r. flag-small (h .cancelled); reads = entry-of-bytes; puts = entry-piece; moves = entry-drop }

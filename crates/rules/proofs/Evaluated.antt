@@ -5,7 +5,7 @@ use mathlib.Core.Bool.{true, false}
 use mathlib.Core.List.{List, [], _∷_}
 use lib.Dec.{eqb}
 use borrow.Author.Tests.{eqb-true, eq-eqb}
-use Rattle.rules.specs.Records.{usable, has, cut, join, fresh, pad}
+use Rattle.rules.specs.Records.{idNumber, idFrom, usable, has, cut, join, fresh, pad}
 use Rattle.rules.specs.Period.{drawnStart, effectiveEnd, effectiveStart}
 use Rattle.rules.specs.Holding.{key, better, claim, taken, heldAt, holdingAt}
 use Rattle.rules.specs.Rows.{codeAt, rowsWith, rowsFrom, rowsAt}
@@ -26,21 +26,21 @@ use Rattle.rules.proofs.Jump.{jumps, nextMoment, idleFor}
 use Rattle.rules.proofs.Quick.{quickChecks, quickDoes, quickCall, quickReplies, quick-replies, quickTellFrame, quickTellAll, quick-tell}
 
 table-evaluates : allHold (quickReplies fresh) table ≡ true
-unfolding allHold caseHolds table quickReplies quickCall quickChecks quickDoes jumps nextMoment idleFor advance second entriesFrom rowsAt rowsFrom rowsWith codeAt holdingAt heldAt taken claim better key drawnStart effectiveEnd effectiveStart usable has cut join big flat rowBytes outOfRange malformed sameEvent find late programChecks eventChecks cancelChecks clockChecks askChecks listChecks bestDefault holderIn answerFor does checks
+unfolding allHold caseHolds table quickReplies quickCall quickChecks quickDoes jumps nextMoment idleFor advance second entriesFrom rowsAt rowsFrom rowsWith codeAt holdingAt heldAt taken claim better key drawnStart effectiveEnd effectiveStart usable has cut join big flat rowBytes outOfRange malformed sameEvent find late programChecks eventChecks cancelChecks clockChecks askChecks listChecks bestDefault holderIn answerFor does checks idNumber idFrom
 table-evaluates = refl
 
 pub bench-marks : allHold (replies (pad fresh)) table ≡ true
 bench-marks = ap (λ see. allHold see table) (sym (fun-ext (quick-replies fresh sound-fresh))) ∙ table-evaluates
 
 edges-evaluate : edgesHold (quickReplies fresh) edges ≡ true
-unfolding edgesHold edges quickReplies quickCall quickChecks quickDoes jumps nextMoment idleFor advance second entriesFrom rowsAt rowsFrom rowsWith codeAt holdingAt heldAt taken claim better key drawnStart effectiveEnd effectiveStart usable has cut join big flat rowBytes outOfRange malformed sameEvent find late programChecks eventChecks cancelChecks clockChecks askChecks listChecks bestDefault holderIn answerFor does checks
+unfolding edgesHold edges quickReplies quickCall quickChecks quickDoes jumps nextMoment idleFor advance second entriesFrom rowsAt rowsFrom rowsWith codeAt holdingAt heldAt taken claim better key drawnStart effectiveEnd effectiveStart usable has cut join big flat rowBytes outOfRange malformed sameEvent find late programChecks eventChecks cancelChecks clockChecks askChecks listChecks bestDefault holderIn answerFor does checks idNumber idFrom
 edges-evaluate = refl
 
 pub edges-hold : edgesHold (replies (pad fresh)) edges ≡ true
 edges-hold = ap (λ see. edgesHold see edges) (sym (fun-ext (quick-replies fresh sound-fresh))) ∙ edges-evaluate
 
 example-evaluates : same (quickTellAll fresh (linesOf exampleInput)) exampleOutput ≡ true
-unfolding linesOf decimal rowsText digit paired unhex isFrame frameOf lineOf read eventAt exampleInput exampleOutput quickTellAll quickTellFrame quickCall quickChecks quickDoes jumps nextMoment idleFor advance second entriesFrom rowsAt rowsFrom rowsWith codeAt holdingAt heldAt taken claim better key drawnStart effectiveEnd effectiveStart usable has cut join big flat rowBytes outOfRange malformed sameEvent find late programChecks eventChecks cancelChecks clockChecks askChecks listChecks bestDefault holderIn answerFor does checks
+unfolding linesOf decimal rowsText digit paired unhex isFrame frameOf lineOf read eventAt exampleInput exampleOutput quickTellAll quickTellFrame quickCall quickChecks quickDoes jumps nextMoment idleFor advance second entriesFrom rowsAt rowsFrom rowsWith codeAt holdingAt heldAt taken claim better key drawnStart effectiveEnd effectiveStart usable has cut join big flat rowBytes outOfRange malformed sameEvent find late programChecks eventChecks cancelChecks clockChecks askChecks listChecks bestDefault holderIn answerFor does checks idNumber idFrom
 example-evaluates = refl
 
 pub same-lists : (xs ys : List ℕ) → same xs ys ≡ true → xs ≡ ys

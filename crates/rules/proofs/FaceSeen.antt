@@ -7,7 +7,7 @@ use lib.Dec.{eqb}
 use lib.ListN.{length}
 use borrow.Author.Tests.{eqb-true}
 use Rattle.rules.specs.Lists.{each, All}
-use Rattle.rules.specs.Records.{State, usable, has, cut, join, fresh, pad}
+use Rattle.rules.specs.Records.{idNumber, idFrom, State, usable, has, cut, join, fresh, pad}
 use Rattle.rules.specs.Period.{drawnStart, effectiveEnd, effectiveStart}
 use Rattle.rules.specs.Holding.{key, better, claim, taken, heldAt, holdingAt}
 use Rattle.rules.specs.Rows.{codeAt, rowsWith, rowsFrom, rowsAt}
@@ -31,7 +31,7 @@ use Rattle.rules.proofs.Evaluated.{same-lists}
 -- the face, of whether the bytes are an image and of what the call on its schedule gives
 abbrev faced : List ℕ → Operation → List ℕ → Bool → Outcome → FaceOutcome
 faced l op lent whole o =
-    let n = firstOf (2 if not whole ∷ o .number if not (eqb (o .number) 0) ∷ 13 if idTooLong op (o .value) (length lent) ∷ []) in
+    let n = firstOf (2 if not whole ∷ o .number if not (eqb (o .number) 0) ∷ 13 if idTooLong (o .value) (length lent) ∷ []) in
     cond (eqb n 0)
     (record { returned = shown (o .value); image = image (o .state); lent = lentAfter op o lent })
     (record { returned = negative n; image = l; lent = lent })
@@ -42,12 +42,12 @@ quickRun s [] = s
 quickRun s (c ∷ cs) = quickRun (quickCall s c .done .state) cs
 
 quick-run : (s : State) → Sound s → (cs : List Call) → run (pad s) cs ≡ pad (quickRun s cs)
-unfolding run quickRun
+unfolding run quickRun idNumber idFrom
 quick-run s v [] = refl
 quick-run s v (c ∷ cs) = ap (λ o. run (o .state) cs) (call-quick s v c) ∙ quick-run (quickCall s c .done .state) (sound-quick s v c) cs
 
 sound-run : (s : State) → Sound s → (cs : List Call) → Sound (quickRun s cs)
-unfolding quickRun
+unfolding quickRun idNumber idFrom
 sound-run s v [] = v
 sound-run s v (c ∷ cs) = sound-run (quickCall s c .done .state) (sound-quick s v c) cs
 
@@ -56,7 +56,7 @@ abbrev quickFace : List ℕ → FaceCase → FaceOutcome
 quickFace l c = faced l (c .operation) (c .lent) true (padded (quickCall (quickRun fresh (c .before)) (asCall (c .operation) (c .lent))))
 
 face-quick : (l : List ℕ) (c : FaceCase) → imaged l ≡ true → loaded l ≡ run (pad fresh) (c .before) → face l (c .operation) (c .lent) ≡ quickFace l c
-unfolding face
+unfolding face idNumber idFrom
 face-quick l c e f =
     ap₂ (faced l (c .operation) (c .lent)) e
     (ap (λ s. call s (asCall (c .operation) (c .lent))) (f ∙ quick-run fresh sound-fresh (c .before))
@@ -66,7 +66,7 @@ abbrev shows : List ℕ → FaceCase → Bool
 shows l c = eqb (quickFace l c .returned) (c .returned) && same (quickFace l c .lent) (c .after)
 
 faces-evaluate : (l : List ℕ) → each (shows l) faceTable ≡ true
-unfolding faceTable quickRun quickCall quickChecks quickDoes jumps nextMoment idleFor advance second entriesFrom rowsAt rowsFrom rowsWith codeAt holdingAt heldAt taken claim better key drawnStart effectiveEnd effectiveStart usable has cut join big flat rowBytes eventBytes entryBytes outOfRange malformed sameEvent find late programChecks eventChecks cancelChecks clockChecks askChecks listChecks bestDefault holderIn answerFor does checks
+unfolding faceTable quickRun quickCall quickChecks quickDoes jumps nextMoment idleFor advance second entriesFrom rowsAt rowsFrom rowsWith codeAt holdingAt heldAt taken claim better key drawnStart effectiveEnd effectiveStart usable has cut join big flat rowBytes eventBytes entryBytes outOfRange malformed sameEvent find late programChecks eventChecks cancelChecks clockChecks askChecks listChecks bestDefault holderIn answerFor does checks idNumber idFrom
 faces-evaluate l = refl
 
 pub faces-hold : All FaceHolds faceTable
@@ -80,5 +80,5 @@ faces-hold c m =
     parts l = each-true (eqb (quickFace l c .returned) (c .returned)) (same (quickFace l c .lent) (c .after)) (each-all (shows l) faceTable (faces-evaluate l) c m)
 
 pub no-image-evaluates : noImage ≡ true
-unfolding noImage face faceFresh read many programFrom eventAt entryAt loaded marked formed imaged whole withinLimits sound image programBytes entryBytes eventBytes big flat
+unfolding noImage face faceFresh read many programFrom eventAt entryAt loaded marked formed imaged whole withinLimits sound image programBytes entryBytes eventBytes big flat idNumber idFrom
 no-image-evaluates = refl

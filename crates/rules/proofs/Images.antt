@@ -1,6 +1,6 @@
 -- A schedule and its image are inverse: the clock, the count, the programs and the entries stand one after the other, each of its own length.
 use mathlib.Core.Path.{_≡_, refl, sym, ap, _∙_}
-use Prim.Native.Nat.{ℕ, _+_, _^_, _<_, _≤_}
+use Prim.Native.Nat.{ℕ, _+_, _*_, _^_, _<_, _≤_}
 use mathlib.Core.Bool.{true, and-eq-true-iff}
 use mathlib.Core.List.{List, [], _++_, append-assoc, append-nil}
 use native.Mathlib.Omega.{arith}
@@ -12,9 +12,9 @@ use lib.Seq.{drop-drop, drop-at}
 use Rattle.rules.specs.declared.Program.{Program}
 use Rattle.rules.specs.declared.Schedule.{Schedule}
 use Rattle.rules.specs.Lists.{All}
-use Rattle.rules.specs.Records.{lastClock, mostEvents, noProgram, noEntry, fresh, pad}
-use Rattle.rules.specs.Bytes.{big, read, flat, many, entryBytes, entryAt}
-use Rattle.rules.specs.Image.{programBytes, programFrom, image, loaded, marked, formed, imaged}
+use Rattle.rules.specs.Records.{lastClock, mostEvents, noProgram, noEntry, fresh, pad, mostPrograms}
+use Rattle.rules.specs.Bytes.{big, read, flat, many, entryBytes, entryAt, entrySize, markAt}
+use Rattle.rules.specs.Image.{programBytes, programFrom, image, loaded, marked, formed, imaged, imageSize, programSize, programsAt, entriesAt}
 use Rattle.rules.specs.Sound.{whole, withinLimits, sound}
 use Rattle.rules.specs.Clauses.{ImageKept}
 use Rattle.rules.proofs.ListLaws.{in-replicate}
@@ -56,43 +56,43 @@ pub record FitsSchedule (s : Schedule) : Type 0 where
 
 pub fresh-fits : FitsSchedule (pad fresh)
 fresh-fits = record {
-  programs = λ p m. rw (in-replicate p noProgram 8 m) (search needs);
-  entries = λ h m. rw (in-replicate h noEntry 48 m) none-fits;
+  programs = λ p m. rw (in-replicate p noProgram mostPrograms m) (search needs);
+  entries = λ h m. rw (in-replicate h noEntry mostEvents m) none-fits;
 }
 
 module _ (s : Schedule) (w : whole s ≡ true) where
-  lengths : (length (s .programs) ≡ 8) × (length (s .entries) ≡ 48)
+  lengths : (length (s .programs) ≡ mostPrograms) × (length (s .entries) ≡ mostEvents)
   unfolding whole
   lengths =
-      let t = and-eq-true-iff (eqb (length (s .programs)) 8) (eqb (length (s .entries)) 48) .0 w in
-      (eqb-true (length (s .programs)) 8 (t .0), eqb-true (length (s .entries)) 48 (t .1))
+      let t = and-eq-true-iff (eqb (length (s .programs)) mostPrograms) (eqb (length (s .entries)) mostEvents) .0 w in
+      (eqb-true (length (s .programs)) mostPrograms (t .0), eqb-true (length (s .entries)) mostEvents (t .1))
 
-  programs-length : length (flat programBytes (s .programs)) ≡ 48
+  programs-length : length (flat programBytes (s .programs)) ≡ mostPrograms * programSize
   programs-length = omega (arith, lengths .0, flat-length programBytes 6 program-size (s .programs))
 
-  pub image-length : length (image s) ≡ 2265
+  pub image-length : length (image s) ≡ imageSize
   unfolding image big
   image-length =
-      let n = flat-length entryBytes 46 (entry-inverse .size) (s .entries) in
+      let n = flat-length entryBytes entrySize (entry-inverse .size) (s .entries) in
       simp length-append (omega (arith, programs-length, lengths .1, n))
 
-  -- the programs start at byte 9, the entries at byte 57
+  -- the programs start at byte 9, the entries behind them
   at-programs : drop 9 (image s) ≡ flat programBytes (s .programs) ++ flat entryBytes (s .entries)
   unfolding image big
   at-programs = refl
 
-  pub at-entries : drop 57 (image s) ≡ flat entryBytes (s .entries) ++ []
+  pub at-entries : drop entriesAt (image s) ≡ flat entryBytes (s .entries) ++ []
   at-entries =
-      sym (drop-drop 48 9 (image s)) ∙ ap (drop 48) at-programs
-      ∙ drop-at (flat programBytes (s .programs)) (flat entryBytes (s .entries)) 48 programs-length ∙ sym (append-nil (flat entryBytes (s .entries)))
+      sym (drop-drop (mostPrograms * programSize) programsAt (image s)) ∙ ap (drop (mostPrograms * programSize)) at-programs
+      ∙ drop-at (flat programBytes (s .programs)) (flat entryBytes (s .entries)) (mostPrograms * programSize) programs-length ∙ sym (append-nil (flat entryBytes (s .entries)))
 
   pub formed-image : formed (image s) ≡ true
   unfolding formed
   formed-image =
       let l = image s in
-      let programs : marked 6 8 9 l ≡ true = rw (lengths .0) at (marked-of-flat program-inverse (s .programs) _ 9 l at-programs) in
-      let entries : marked 46 48 102 l ≡ true = rw (lengths .1) at (marked-of-flat entry-inverse (s .entries) [] 57 l at-entries) in
-      rw (eq-eqb (length l) 2265 image-length, programs, entries)
+      let programs : marked programSize mostPrograms programsAt l ≡ true = rw (lengths .0) at (marked-of-flat program-inverse (s .programs) _ 9 l at-programs) in
+      let entries : marked entrySize mostEvents (entriesAt + markAt) l ≡ true = rw (lengths .1) at (marked-of-flat entry-inverse (s .entries) [] entriesAt l at-entries) in
+      rw (eq-eqb (length l) imageSize image-length, programs, entries)
 
   -- a schedule is read again from its image
   pub loaded-image : withinLimits s ≡ true → FitsSchedule s → loaded (image s) ≡ s
@@ -102,9 +102,9 @@ module _ (s : Schedule) (w : whole s ≡ true) where
       let clock : s .clock < 256 ^ 8 = omega (arith, leb-true (s .clock) lastClock (t .0)) in
       let count : s .count < 256 ^ 1 = omega (arith, leb-true (s .count) mostEvents (t .1)) in
       let ps = many-of-flat program-inverse (s .programs) (f .programs) _ 9 (image s) at-programs in
-      let es = many-of-flat entry-inverse (s .entries) (f .entries) [] 57 (image s) at-entries in
+      let es = many-of-flat entry-inverse (s .entries) (f .entries) [] entriesAt (image s) at-entries in
       let programs : many programFrom 6 8 9 (image s) ≡ s .programs = rw (lengths .0) at ps in
-      let entries : many entryAt 46 48 57 (image s) ≡ s .entries = rw (lengths .1) at es in
+      let entries : many entryAt entrySize mostEvents entriesAt (image s) ≡ s .entries = rw (lengths .1) at es in
       rw (read-big 8 (s .clock) clock, read-big 1 (s .count) count, programs, entries)
 
 -- so the image of a sound schedule is accepted, and gives the schedule back
@@ -120,10 +120,10 @@ image-kept s e f =
 pub image-loaded : (l : List ℕ) → Bytes l → formed l ≡ true → image (loaded l) ≡ l
 unfolding loaded image formed
 image-loaded l b f =
-    let t = and-eq-true-iff (eqb (length l) 2265) _ .0 f in
-    let m = and-eq-true-iff (marked 6 8 9 l) (marked 46 48 102 l) .0 (t .1) in
-    let n : length l ≡ 2265 = eqb-true (length l) 2265 (t .0) in
-    let end : drop 2265 l ≡ [] = drop-of-length-le l {i = 2265} (omega arith) in
-    let entries : flat entryBytes (many entryAt 46 48 57 l) ≡ drop 57 l =
-    sym (append-nil _) ∙ rw end at (flat-of-many entry-inverse l b 48 57 (omega arith) (m .1)) in
+    let t = and-eq-true-iff (eqb (length l) imageSize) _ .0 f in
+    let m = and-eq-true-iff (marked programSize mostPrograms programsAt l) (marked entrySize mostEvents (entriesAt + markAt) l) .0 (t .1) in
+    let n : length l ≡ imageSize = eqb-true (length l) imageSize (t .0) in
+    let end : drop imageSize l ≡ [] = drop-of-length-le l {i = imageSize} (omega arith) in
+    let entries : flat entryBytes (many entryAt entrySize mostEvents entriesAt l) ≡ drop entriesAt l =
+    sym (append-nil _) ∙ rw end at (flat-of-many entry-inverse l b mostEvents entriesAt (omega arith) (m .1)) in
     rw (entries, flat-of-many program-inverse l b 8 9 (omega arith) (m .0), piece l b 1 8 (omega arith), piece l b 8 0 (omega arith))

@@ -23,7 +23,7 @@ use Rattle.rules.specs.History.{cancelledAt, heldUnder}
 use Rattle.rules.specs.Schedules.{Timed, goneBy, asEntry, holding, seen, living, heldEvents}
 use Rattle.rules.proofs.Tests.{both, either-false}
 use Rattle.rules.proofs.ListLaws.{in-keep, keep-in, keep-map, keep-insert, map-cong, map-in, all-map, in-insert, insert-map, asc-insert, asc-map, asc-weaken}
-use Rattle.rules.proofs.Local.{timedId, cancelTimed, holding-early, holding-deliver, holding-cancel, holding-program, Ranked}
+use Rattle.rules.proofs.Local.{timedId, cancelTimed, holding-early, holding-deliver, holding-cancel, holding-program, RankedAlike}
 use Rattle.rules.proofs.Second.{Past}
 
 abbrev pub ends : Timed → ℕ
@@ -181,7 +181,7 @@ module _ (ps : List Program) (ts : List Timed) (c : ℕ) (kept : Kept ps ts c) (
   unchanged x m = getD-set-other ps n (x .event .program) p noProgram
       (λ q. both (programAt ps n .added) (rw q at (kept .added x m)) unused)
 
-  pub ranked : All (Ranked ps (set ps n p)) ts
+  pub ranked : All (RankedAlike ps (set ps n p)) ts
   ranked x m = ap (λ q. q .primacy) (unchanged x m)
 
   pub kept-program : Kept (set ps n p) ts c

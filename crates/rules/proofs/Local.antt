@@ -3,7 +3,7 @@ use mathlib.Core.Path.{_≡_, refl, sym, ap, ap₂, _∙_, fun-ext}
 use mathlib.Core.Logic.{inl, inr}
 use Prim.Native.Nat.{ℕ, zero, suc, _<_, _≤_}
 use mathlib.Core.Bool.{Bool, true, false}
-use mathlib.Core.List.{List, [], _∷_, _++_, map, map-map}
+use mathlib.Core.List.{List, [], _∷_, map, map-map, _++_}
 use mathlib.Core.Option.{Option, none, some}
 use native.Mathlib.Omega.{arith}
 use borrow.Author.Tests.{lt-leb}
@@ -111,16 +111,16 @@ module _ (ps : List Program) (i c : ℕ) (ts : List Timed) where
 -- A program that ranks none of the events changes nothing.
 
 module _ (ps qs : List Program) where
-  abbrev pub Ranked : Timed → Type 0
-  Ranked x = programAt qs (x .event .program) .primacy ≡ programAt ps (x .event .program) .primacy
+  abbrev pub RankedAlike : Timed → Type 0
+  RankedAlike x = programAt qs (x .event .program) .primacy ≡ programAt ps (x .event .program) .primacy
 
-  taken-program : (t s : ℕ) (m : Timed → Holding) (x : Timed) → Ranked x → (n : Holding) (ts : List Timed) → All Ranked ts
+  taken-program : (t s : ℕ) (m : Timed → Holding) (x : Timed) → RankedAlike x → (n : Holding) (ts : List Timed) → All RankedAlike ts
       → taken qs s (map (λ o. asEntry t o (m o)) ts) (asEntry t x n) ≡ taken ps s (map (λ o. asEntry t o (m o)) ts) (asEntry t x n)
   unfolding taken
   taken-program t s m x r n [] h = refl
   taken-program t s m x r n (o ∷ os) h = rw (r, h o (inl refl), taken-program t s m x r n os (λ y k. h y (inr k)))
 
-  module _ (ts : List Timed) (ranked : All Ranked ts) where
+  module _ (ts : List Timed) (ranked : All RankedAlike ts) where
     pub holding-program : (t : ℕ) (x : Timed) → In x ts → holding qs ts t x ≡ holding ps ts t x
     unfolding holding holdingAt heldAt
     holding-program zero x m = refl

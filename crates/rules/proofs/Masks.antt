@@ -1,15 +1,14 @@
 -- Masks, control by control: what is in one that was cut or joined, and when cutting changes nothing.
 use mathlib.Core.Path.{_≡_, refl, sym, _∙_, ap}
-use Prim.Native.Nat.{ℕ, zero, suc, _*_, _/_, _%_, _^_, _<_, _≤_, min}
+use Prim.Native.Nat.{ℕ, zero, suc, _/_, _%_, _^_, _<_, _≤_, min}
 use native.Mathlib.Nat.{zero-div, div-one, div-div-eq-div-mul, pow-succ'}
 use native.Mathlib.Omega.{arith}
 use mathlib.Core.Bool.{Bool, true, false, cond, not, _&&_, _||_}
 use lib.Dec.{eqb}
 use lib.Bits.{bitAnd, bitOr, bitXor, and-shr, and-mod, or-shr, or-mod, xor-shr, xor-mod, or-zero-l, and-zero-l, xor-zero-l, xor-zero-r, and-step, and-self, and-le-r, xor-add-and}
 use lib.Arith.{bin-ind}
-use borrow.Author.Tests.{eqb-true}
 use Rattle.rules.specs.Records.{cut, join, has}
-use Rattle.rules.proofs.Tests.{both, each-true}
+use Rattle.rules.proofs.Tests.{both}
 
 -- a law of two digits, by the four cases
 two : (P : ℕ → ℕ → Type 0) → P 0 0 → P 0 1 → P 1 0 → P 1 1 → (x y : ℕ) → x < 2 → y < 2 → P x y

@@ -1,13 +1,13 @@
 -- What the members of a history's lists say: the program places and the cancellations.
 use mathlib.Core.Path.{_≡_, refl, sym, ap, _∙_}
 use mathlib.Core.Logic.{_⊎_, inl, inr}
-use Prim.Native.Nat.{ℕ, _<_, _≤_}
+use Prim.Native.Nat.{ℕ}
 use mathlib.Core.Bool.{Bool, true, false}
 use mathlib.Core.List.{List, [], _∷_}
 use mathlib.Core.Option.{Option, none, some}
 use native.Mathlib.Omega.{arith}
 use lib.Dec.{ltb, eqb}
-use lib.ListN.{set, length, length-set, getD-replicate, List·getD-eq-default}
+use lib.ListN.{length, length-set, getD-replicate, List·getD-eq-default}
 use lib.Seq.{getD-set-same, getD-set-other, ext-getD}
 use borrow.Author.Tests.{ltb-true, ltb-false, eqb-true, eqb-false}
 use Rattle.rules.specs.Lists.{In, Same}
@@ -17,7 +17,7 @@ use Rattle.rules.specs.History.{Added, Brought}
 use Rattle.rules.specs.Schedules.{programsOf}
 use Rattle.rules.specs.Arrival.{Cancellation, cancellation, cancellationsIn}
 use Rattle.rules.proofs.Tests.{both}
-use Rattle.rules.proofs.Scheduled.{Numbered}
+use Rattle.rules.proofs.Scheduled.{OnceEach}
 
 -- Programs.
 
@@ -25,7 +25,7 @@ programs-length : (xs : List Added) → length (programsOf xs) ≡ 8
 programs-length [] = refl
 programs-length (a ∷ xs) = length-set (programsOf xs) (a .number) (programOf (a .primacy) (a .defaults)) ∙ programs-length xs
 
-lookup : (xs : List Added) → Numbered xs → (a : Added) → In a xs → programAt (programsOf xs) (a .number) ≡ programOf (a .primacy) (a .defaults)
+lookup : (xs : List Added) → OnceEach xs → (a : Added) → In a xs → programAt (programsOf xs) (a .number) ≡ programOf (a .primacy) (a .defaults)
 lookup (x ∷ xs) h a (inl q) = rw q (getD-set-same (programsOf xs) (x .number) (programOf (x .primacy) (x .defaults)) noProgram (omega (arith, programs-length xs, h .0)))
 lookup (x ∷ xs) h a (inr m) =
     let e = lookup xs (h .2) a m in
@@ -47,7 +47,7 @@ absent (x ∷ xs) n = go (eqb (x .number) n) refl (absent xs n)
     go false e (inl z) = inl (getD-set-other (programsOf xs) (x .number) n (programOf (x .primacy) (x .defaults)) noProgram (λ q. eqb-false (x .number) n e (sym q)) ∙ z)
     go false e (inr r) = inr (r .0, inr (r .1), r .2)
 
-pub programs-same : (xs ys : List Added) → Numbered xs → Numbered ys → Same xs ys → programsOf xs ≡ programsOf ys
+pub programs-same : (xs ys : List Added) → OnceEach xs → OnceEach ys → Same xs ys → programsOf xs ≡ programsOf ys
 programs-same xs ys h k s = ext-getD noProgram (programsOf xs) (programsOf ys) (programs-length xs ∙ sym (programs-length ys)) (λ i l. at i (absent xs i) (absent ys i))
   where
     there : (a : Added) (i : ℕ) → a .number ≡ i → In a xs → In a ys → programAt (programsOf xs) i ≡ programAt (programsOf ys) i

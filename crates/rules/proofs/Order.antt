@@ -1,38 +1,36 @@
 -- The order of arrival does not count: two histories with the same members, listed by id and start, are equal lists, and the rest depends on nothing else.
-use mathlib.Core.Path.{_≡_, refl, sym, ap, ap₂, _∙_, subst}
-use mathlib.Core.Logic.{_↔_, _⊎_, inl, inr, ⊎-elim}
-use Prim.Native.Nat.{ℕ, zero, suc, _+_, _<_, _≤_}
+use mathlib.Core.Path.{_≡_, refl, sym, ap, _∙_, subst}
+use mathlib.Core.Logic.{inl, inr}
+use Prim.Native.Nat.{ℕ, _<_, _≤_}
 use mathlib.Core.Bool.{Bool, true, false, cond}
-use mathlib.Core.List.{List, [], _∷_, _++_, map, map-map}
+use mathlib.Core.List.{List, [], _∷_, map, map-map}
 use mathlib.Core.Option.{Option, none, some}
 use native.Mathlib.Omega.{arith}
 use lib.Dec.{ltb, eqb}
 use lib.ListN.{length, take, drop, length-map}
 use lib.Seq.{take-append-seam}
 use borrow.Author.Tests.{ltb-false, le-ltb, eqb-false}
-use Rattle.rules.specs.declared.Event.{Event}
 use Rattle.rules.specs.declared.Entry.{Entry}
 use Rattle.rules.specs.declared.Record.{Record}
 use Rattle.rules.specs.declared.Program.{Program}
-use Rattle.rules.specs.Lists.{keep, over, In, Same, All, Pairwise}
-use Rattle.rules.specs.Records.{State, idOf, has, fresh, pad}
+use Rattle.rules.specs.Lists.{keep, over, In, Same, All}
+use Rattle.rules.specs.Records.{idOf, has, pad}
 use Rattle.rules.specs.Period.{drawnStart, effectiveStart, effectiveEnd}
 use Rattle.rules.specs.Bytes.{bytes, flat}
 use Rattle.rules.specs.Sound.{sound}
 use Rattle.rules.specs.Refusals.{firstOf, listChecks, askChecks}
-use Rattle.rules.specs.Calls.{Call, list, ask, Value, count, holder, entryId, recordOf, defaultFor, bestDefault, holderIn, answerFor, does, checks, accepted, refused, counted, Outcome, call, run, joined}
-use Rattle.rules.specs.History.{Added, Brought, History, noHistory, historyOf}
+use Rattle.rules.specs.Calls.{Call, list, ask, Value, count, holder, entryId, recordOf, defaultFor, bestDefault, holderIn, answerFor, does, checks, accepted, refused, counted, Outcome, call}
+use Rattle.rules.specs.History.{Brought, History, historyOf}
 use Rattle.rules.specs.Schedules.{Timed, timed, goneBy, holding, living, seen, rowsTo, heldEvents, programsOf, timesOf, stateAt, stateOf, rowsOf}
-use Rattle.rules.specs.Arrival.{after, joinedRows, eventsOf, Cancellation, cancellationsOf, InTime, SameArrivals, Started, startsOf, SameStarts, heldOf, Listed, holdsNow, Asked, Apart, OneHolder, NoTwoHolders, AsScheduled, SameResults, ArrivalOrder}
-use Rattle.rules.proofs.Tests.{both}
+use Rattle.rules.specs.Arrival.{after, joinedRows, eventsOf, Cancellation, InTime, SameArrivals, Started, startsOf, SameStarts, heldOf, Listed, Asked, OneHolder, NoTwoHolders, AsScheduled, SameResults, ArrivalOrder}
 use Rattle.rules.proofs.ListLaws.{in-map, map-in, all-map, in-keep, keep-in, asc-keep, map-same, ext, one}
 use Rattle.rules.proofs.Masks.{not-has}
-use Rattle.rules.proofs.Local.{timedId, holding-ended}
-use Rattle.rules.proofs.Kept.{Kept, Before, ends}
-use Rattle.rules.proofs.SoundState.{Sound, sound-pad}
+use Rattle.rules.proofs.Local.{holding-ended}
+use Rattle.rules.proofs.Kept.{Before}
+use Rattle.rules.proofs.SoundState.{Sound}
 use Rattle.rules.proofs.SoundKept.{refusal-pad, call-pad}
 use Rattle.rules.proofs.CallLaws.{not-two, own-pad}
-use Rattle.rules.proofs.Scheduled.{Numbered, Inv, Step, scheduled}
+use Rattle.rules.proofs.Scheduled.{Inv, scheduled}
 use Rattle.rules.proofs.RowOrder.{rows-ascend}
 use Rattle.rules.proofs.OneHolder.{one-holder}
 use Rattle.rules.proofs.Members.{programs-same, in-cancellations, cancellations-in}

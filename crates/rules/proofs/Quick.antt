@@ -13,7 +13,7 @@ use Rattle.rules.specs.declared.Line.the-variants.{Good, Bad}
 use Rattle.rules.specs.Records.{State, lastClock, pad}
 use Rattle.rules.specs.Moments.{Moved}
 use Rattle.rules.specs.Refusals.{Check, firstOf, clockChecks}
-use Rattle.rules.specs.Calls.{Call, addProgram, deliver, cancel, setClock, ask, list, nothing, Done, Outcome, clocked, does, checks, refusal, accepted, refused, lentBytes, lentList, call}
+use Rattle.rules.specs.Calls.{Call, bare, setClock, list, nothing, Done, Outcome, clocked, does, checks, refusal, accepted, refused, lentBytes, lentList, call}
 use Rattle.rules.specs.Frames.{lineOf, frameCall}
 use Rattle.rules.specs.Printed.{outcomeText, badText, room, Told, tellFrame, tellLine, tell, tellAll}
 use Rattle.rules.specs.Marks.{Reply, replyOf, replies}
@@ -28,35 +28,29 @@ quickly s reading = jumps 200 reading s
 
 -- checks and effects of a call, with the moments passed given
 unfoldable pub quickChecks : State → Call → List Check
-quickChecks s (addProgram n p d) = checks s (addProgram n p d)
-quickChecks s (deliver e) = checks s (deliver e)
-quickChecks s (cancel i) = checks s (cancel i)
+quickChecks s (bare c) = checks s (bare c)
 quickChecks s (setClock t b) = clockChecks (s .clock) t (length (quickly s t .rows)) (length b)
-quickChecks s (ask c) = checks s (ask c)
 quickChecks s (list r) = checks s (list r)
 
 unfoldable pub quickDoes : State → Call → Done
-quickDoes s (addProgram n p d) = does s (addProgram n p d)
-quickDoes s (deliver e) = does s (deliver e)
-quickDoes s (cancel i) = does s (cancel i)
+quickDoes s (bare c) = does s (bare c)
 quickDoes s (setClock t b) = clocked (quickly s t) b
-quickDoes s (ask c) = does s (ask c)
 quickDoes s (list r) = does s (list r)
 
 -- a refused call on the schedule as lists
 abbrev kept : State → Call → Done
 kept s c = record { state = s; value = nothing; bytes = lentBytes c; records = lentList c }
 
-pub record Acted : Type 0 where
+pub record Made : Type 0 where
   pub number : ℕ
   pub done : Done
 
-unfoldable pub quickCall : State → Call → Acted
+unfoldable pub quickCall : State → Call → Made
 quickCall s c =
     let n = firstOf (quickChecks s c) in
     record { number = n; done = cond (eqb n 0) (quickDoes s c) (kept s c) }
 
-abbrev replied : Acted → Reply
+abbrev replied : Made → Reply
 replied a = record { number = a .number; value = a .done .value; bytes = a .done .bytes; records = a .done .records }
 
 unfoldable pub quickReplies : State → List Call → List Reply
@@ -66,14 +60,12 @@ quickReplies s (c ∷ cs) = let a = quickCall s c in replied a ∷ quickReplies 
 -- The same.
 
 -- what a call on a schedule as lists gives
-abbrev plain : State → Call → Acted
+abbrev plain : State → Call → Made
 plain s c = record { number = firstOf (checks s c); done = cond (eqb (firstOf (checks s c)) 0) (does s c) (kept s c) }
 
 quick-call : (s : State) → Sound s → (c : Call) → quickCall s c ≡ plain s c
 unfolding quickCall quickChecks quickDoes checks does clockChecks
-quick-call s v (addProgram n p d) = refl
-quick-call s v (deliver e) = refl
-quick-call s v (cancel i) = refl
+quick-call s v (bare c) = refl
 quick-call s v (setClock t b) = go (ltb t (s .clock) || ltb lastClock t) refl
   where
     go : (x : Bool) → (ltb t (s .clock) || ltb lastClock t) ≡ x → quickCall s (setClock t b) ≡ plain s (setClock t b)
@@ -81,11 +73,10 @@ quick-call s v (setClock t b) = go (ltb t (s .clock) || ltb lastClock t) refl
     go false e =
         let r = either-false (ltb t (s .clock)) (ltb lastClock t) e in
         rw (jumps-advance 200 t s v (ltb-false lastClock t (r .1)))
-quick-call s v (ask c) = refl
 quick-call s v (list r) = refl
 
 -- and on a schedule by value
-abbrev pub padded : Acted → Outcome
+abbrev pub padded : Made → Outcome
 padded a = record { number = a .number; value = a .done .value; state = pad (a .done .state); bytes = a .done .bytes; records = a .done .records }
 
 call-plain : (s : State) → Sound s → (c : Call) → call (pad s) c ≡ padded (plain s c)

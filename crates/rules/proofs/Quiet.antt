@@ -1,19 +1,18 @@
 -- Where nothing begins or ends, a second changes the clock alone.
 use mathlib.Core.Path.{_≡_, refl, sym, ap, ap₂, _∙_, subst}
 use mathlib.Core.Logic.{inl, inr}
-use Prim.Native.Nat.{ℕ, suc, _<_, _≤_}
+use Prim.Native.Nat.{ℕ, suc, _<_}
 use mathlib.Core.Bool.{Bool, true, false, cond, not, _||_}
 use mathlib.Core.List.{List, [], _∷_, _++_, map}
 use native.Mathlib.Omega.{arith}
-use lib.Dec.{ltb, leb, eqb}
+use lib.Dec.{ltb, eqb}
 use borrow.Author.Tests.{ltb-true, lt-ltb, lt-leb, ne-eqb}
 use Rattle.rules.specs.declared.Entry.{Entry}
-use Rattle.rules.specs.declared.Program.{Program}
 use Rattle.rules.specs.Lists.{keep, In, All}
-use Rattle.rules.specs.Records.{State, has, cut}
+use Rattle.rules.specs.Records.{State, has}
 use Rattle.rules.specs.Holding.{rankOf, better, claim, taken, heldAt, Holding, holdingAt, withHolding, endOf}
-use Rattle.rules.specs.Rows.{Row, codeAt, rowOf, rowsWith, rowsFrom, rowsAt, ending, superseded, starting}
-use Rattle.rules.specs.Moments.{Moved, entriesFrom, lasts, second}
+use Rattle.rules.specs.Rows.{codeAt, rowOf, rowsWith, rowsFrom, rowsAt, ending, superseded, starting}
+use Rattle.rules.specs.Moments.{entriesFrom, lasts, second}
 use Rattle.rules.specs.Arrival.{OneHolder}
 use Rattle.rules.proofs.Tests.{both}
 use Rattle.rules.proofs.ListLaws.{keep-all, keep-no, map-same}

@@ -12,6 +12,7 @@ use Rattle.rules.specs.declared.Event.{Event}
 use Rattle.rules.specs.declared.Entry.{Entry}
 use Rattle.rules.specs.Lists.{All}
 use Rattle.rules.specs.Records.{State, idOf, mostEvents, lastClock, programAt}
+use Rattle.rules.specs.Bytes.{rowSize}
 use Rattle.rules.specs.Sound.{malformed, sameEvent}
 use Rattle.rules.specs.Refusals.{firstOf, find, late, eventChecks, clockChecks, listChecks}
 use Rattle.rules.specs.Clauses.{Fit}
@@ -89,21 +90,21 @@ module _ (s : State) (d : Event) where
 
 -- 13.
 
-pub short-buffer : (clock t rows room : ℕ) → firstOf (clockChecks clock t rows room) ≡ 13 ↔ ((clock ≤ t) × (t ≤ lastClock) × (room < 17 * rows))
+pub short-buffer : (clock t rows room : ℕ) → firstOf (clockChecks clock t rows room) ≡ 13 ↔ ((clock ≤ t) × (t ≤ lastClock) × (room < rowSize * rows))
 unfolding clockChecks
 short-buffer clock t rows room = (only, λ f. if (f .0) (f .1) (f .2))
   where
-    only : firstOf (clockChecks clock t rows room) ≡ 13 → (clock ≤ t) × (t ≤ lastClock) × (room < 17 * rows)
+    only : firstOf (clockChecks clock t rows room) ≡ 13 → (clock ≤ t) × (t ≤ lastClock) × (room < rowSize * rows)
     only z =
         let r12 = passed-over 12 13 (ltb t clock || ltb lastClock t) _ refl z in
         let r = either-false (ltb t clock) (ltb lastClock t) (r12 .0) in
-        (ltb-false t clock (r .0), ltb-false lastClock t (r .1), ltb-true room (17 * rows) (given 13 (ltb room (17 * rows)) refl (r12 .1)))
+        (ltb-false t clock (r .0), ltb-false lastClock t (r .1), ltb-true room (rowSize * rows) (given 13 (ltb room (rowSize * rows)) refl (r12 .1)))
 
     reading : clock ≤ t → t ≤ lastClock → (ltb t clock || ltb lastClock t) ≡ false
     reading l m = cc (le-ltb t clock l, le-ltb lastClock t m)
 
-    if : clock ≤ t → t ≤ lastClock → room < 17 * rows → firstOf (clockChecks clock t rows room) ≡ 13
-    if l m n = over 12 (ltb t clock || ltb lastClock t) _ (reading l m) ∙ gives 13 (ltb room (17 * rows)) (lt-ltb room (17 * rows) n)
+    if : clock ≤ t → t ≤ lastClock → room < rowSize * rows → firstOf (clockChecks clock t rows room) ≡ 13
+    if l m n = over 12 (ltb t clock || ltb lastClock t) _ (reading l m) ∙ gives 13 (ltb room (rowSize * rows)) (lt-ltb room (rowSize * rows) n)
 
 pub short-list : (held room : ℕ) → firstOf (listChecks held room) ≡ 13 ↔ (room < held)
 unfolding listChecks

@@ -1,16 +1,15 @@
--- The bytes of rows: 17 for each, so that what was written over a buffer is read again.
-use mathlib.Core.Path.{_≡_, refl, ap, _∙_}
+-- The bytes of rows: as many for each, so that what was written over a buffer is read again.
+use mathlib.Core.Path.{_≡_, refl}
 use Prim.Native.Nat.{ℕ, _*_}
 use mathlib.Core.List.{List, [], _∷_, _++_, append-assoc}
-use native.Mathlib.Omega.{arith}
 use lib.ListN.{length, take, drop, length-append}
 use lib.Seq.{take-at}
 use Rattle.rules.specs.Lists.{over}
 use Rattle.rules.specs.Rows.{Row}
-use Rattle.rules.specs.Bytes.{big, flat, rowBytes, bytes}
+use Rattle.rules.specs.Bytes.{flat, rowBytes, bytes, rowSize}
 use Rattle.rules.proofs.Numbers.{big-length, flat-length}
 
-row-length : (r : Row) → length (rowBytes r) ≡ 17
+row-length : (r : Row) → length (rowBytes r) ≡ rowSize
 unfolding rowBytes
 row-length r = simp (length-append, big-length)
 
@@ -19,9 +18,9 @@ unfolding flat
 bytes-append [] qs = refl
 bytes-append (r ∷ rs) qs = rw (bytes-append rs qs, append-assoc)
 
-pub bytes-length : (rs : List Row) → length (bytes rs) ≡ 17 * length rs
-bytes-length rs = flat-length rowBytes 17 row-length rs
+pub bytes-length : (rs : List Row) → length (bytes rs) ≡ rowSize * length rs
+bytes-length rs = flat-length rowBytes rowSize row-length rs
 
 -- the bytes written over a buffer, read again
-pub bytes-read : (rs : List Row) (b : List ℕ) → take (17 * length rs) (over (bytes rs) b) ≡ bytes rs
-bytes-read rs b = take-at (bytes rs) (drop (length (bytes rs)) b) (17 * length rs) (bytes-length rs)
+pub bytes-read : (rs : List Row) (b : List ℕ) → take (rowSize * length rs) (over (bytes rs) b) ≡ bytes rs
+bytes-read rs b = take-at (bytes rs) (drop (length (bytes rs)) b) (rowSize * length rs) (bytes-length rs)

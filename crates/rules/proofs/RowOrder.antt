@@ -32,18 +32,18 @@ Behind h o = (entryId h < entryId o) ⊎ ((endOf h ≤ o .begins) × (o .begins 
 
 module _ (t : ℕ) (now : Entry → Holding) where
   -- two entries give the same code only if their ids ascend
-  abbrev Apart : ℕ → Type 0
-  Apart n = (h o : Entry) → Behind h o → codeAt t h (now h) ≡ n → codeAt t o (now o) ≡ n → entryId h < entryId o
+  abbrev IdsAscend : ℕ → Type 0
+  IdsAscend n = (h o : Entry) → Behind h o → codeAt t h (now h) ≡ n → codeAt t o (now o) ≡ n → entryId h < entryId o
 
-  two-ends : Apart 3
+  two-ends : IdsAscend 3
   two-ends h o (inl l) d e = l
   two-ends h o (inr b) d e = absurd (let v = is-end t h (now h) d in let w = is-end t o (now o) e in omega arith)
 
-  two-losses : Apart 7
+  two-losses : IdsAscend 7
   two-losses h o (inl l) d e = l
   two-losses h o (inr b) d e = absurd (let v = is-loss t h (now h) d in let w = is-loss t o (now o) e in omega arith)
 
-  two-starts : Apart 2
+  two-starts : IdsAscend 2
   two-starts h o (inl l) d e = l
   two-starts h o (inr b) d e = absurd (let v = is-start t h (now h) d in let w = is-start t o (now o) e in omega arith)
 
@@ -59,7 +59,7 @@ module _ (t : ℕ) (now : Entry → Holding) where
         let q = in-map (rowOf t now) r (keep p hs) m in
         (ap (λ r. r .time) (q .2), ap (λ r. r .code) (q .2) ∙ eqb-true (codeAt t (q .0) (now (q .0))) n (in-keep p (q .0) hs (q .1) .1))
 
-    by-id : (n : ℕ) → Apart n → Pairwise Behind hs → Pairwise Sooner (of n)
+    by-id : (n : ℕ) → IdsAscend n → Pairwise Behind hs → Pairwise Sooner (of n)
     unfolding rowsWith
     by-id n apart b =
         let p : Entry → Bool = λ h. eqb (codeAt t h (now h)) n in

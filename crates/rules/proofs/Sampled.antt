@@ -9,7 +9,7 @@ use mathlib.Core.Option.{Option, none, some}
 use lib.Dec.{eqb, lit<}
 use Rattle.rules.specs.declared.Event.{Event}
 use Rattle.rules.specs.Lists.{In}
-use Rattle.rules.specs.Records.{State, idOf, usable, has, cut, join, fresh, pad}
+use Rattle.rules.specs.Records.{idNumber, idFrom, State, idOf, usable, has, cut, join, fresh, pad}
 use Rattle.rules.specs.Period.{drawnStart, effectiveEnd, effectiveStart}
 use Rattle.rules.specs.Holding.{key, better, claim, taken, heldAt, holdingAt}
 use Rattle.rules.specs.Rows.{codeAt, rowsWith, rowsFrom, rowsAt}
@@ -44,7 +44,7 @@ quickJoined s [] = []
 quickJoined s (c ∷ cs) = let a = quickCall s c in written c (padded a) ++ quickJoined (a .done .state) cs
 
 quick-accepted : (s : State) → Sound s → (cs : List Call) → quickAccepted s cs ≡ acceptedCalls (pad s) cs
-unfolding quickAccepted acceptedCalls
+unfolding quickAccepted acceptedCalls idNumber idFrom
 quick-accepted s v [] = refl
 quick-accepted s v (c ∷ cs) =
     let n = quickCall s c .number in
@@ -54,7 +54,7 @@ quick-accepted s v (c ∷ cs) =
     ∙ ap (λ k. cond (eqb k 0) (c ∷ acceptedCalls (call (pad s) c .state) cs) (acceptedCalls (call (pad s) c .state) cs)) (sym (number-quick s v c))
 
 quick-joined : (s : State) → Sound s → (cs : List Call) → quickJoined s cs ≡ joined (pad s) cs
-unfolding quickJoined joined
+unfolding quickJoined joined idNumber idFrom
 quick-joined s v [] = refl
 quick-joined s v (c ∷ cs) =
     ap (λ w. written c (padded (quickCall s c)) ++ w) (quick-joined (quickCall s c .done .state) (sound-quick s v c) cs)
@@ -91,22 +91,22 @@ history-quick : (cs : List Call) → historyOf cs ≡ quickHistory cs
 history-quick cs = ap (historyFrom noHistory) (sym (quick-accepted fresh sound-fresh cs))
 
 histories-evaluate : historiesHold quickHistory historyTable ≡ true
-unfolding historiesHold historyTable historyFrom note quickAccepted quickCall quickChecks quickDoes jumps nextMoment idleFor advance second entriesFrom rowsAt rowsFrom rowsWith codeAt holdingAt heldAt taken claim better key drawnStart effectiveEnd effectiveStart usable has cut join big flat rowBytes outOfRange malformed sameEvent find late programChecks eventChecks cancelChecks clockChecks askChecks listChecks bestDefault holderIn answerFor does checks
+unfolding historiesHold historyTable historyFrom note quickAccepted quickCall quickChecks quickDoes jumps nextMoment idleFor advance second entriesFrom rowsAt rowsFrom rowsWith codeAt holdingAt heldAt taken claim better key drawnStart effectiveEnd effectiveStart usable has cut join big flat rowBytes outOfRange malformed sameEvent find late programChecks eventChecks cancelChecks clockChecks askChecks listChecks bestDefault holderIn answerFor does checks idNumber idFrom
 histories-evaluate = refl
 
 pub histories-hold : historiesHold historyOf historyTable ≡ true
 histories-hold = ap (λ see. historiesHold see historyTable) (fun-ext history-quick) ∙ histories-evaluate
 
 plainly-quick : quickHistory plainly ≡ history (other ∷ first ∷ []) 0 0 33 0 0
-unfolding plainly historyFrom note quickAccepted quickCall quickChecks quickDoes jumps nextMoment idleFor advance second entriesFrom rowsAt rowsFrom rowsWith codeAt holdingAt heldAt taken claim better key drawnStart effectiveEnd effectiveStart usable has cut join big flat rowBytes outOfRange malformed sameEvent find late programChecks eventChecks cancelChecks clockChecks askChecks listChecks bestDefault holderIn answerFor does checks
+unfolding plainly historyFrom note quickAccepted quickCall quickChecks quickDoes jumps nextMoment idleFor advance second entriesFrom rowsAt rowsFrom rowsWith codeAt holdingAt heldAt taken claim better key drawnStart effectiveEnd effectiveStart usable has cut join big flat rowBytes outOfRange malformed sameEvent find late programChecks eventChecks cancelChecks clockChecks askChecks listChecks bestDefault holderIn answerFor does checks idNumber idFrom
 plainly-quick = refl
 
 otherwise-quick : quickHistory otherwise ≡ history (first ∷ other ∷ []) 9 14 39 15 11
-unfolding otherwise historyFrom note quickAccepted quickCall quickChecks quickDoes jumps nextMoment idleFor advance second entriesFrom rowsAt rowsFrom rowsWith codeAt holdingAt heldAt taken claim better key drawnStart effectiveEnd effectiveStart usable has cut join big flat rowBytes outOfRange malformed sameEvent find late programChecks eventChecks cancelChecks clockChecks askChecks listChecks bestDefault holderIn answerFor does checks
+unfolding otherwise historyFrom note quickAccepted quickCall quickChecks quickDoes jumps nextMoment idleFor advance second entriesFrom rowsAt rowsFrom rowsWith codeAt holdingAt heldAt taken claim better key drawnStart effectiveEnd effectiveStart usable has cut join big flat rowBytes outOfRange malformed sameEvent find late programChecks eventChecks cancelChecks clockChecks askChecks listChecks bestDefault holderIn answerFor does checks idNumber idFrom
 otherwise-quick = refl
 
 in-time : (ps : List Added) (r1 r2 r3 r4 r5 : ℕ) → r1 < 10 → r2 < 15 → r3 < 40 → r4 < 16 → r5 < 12 → InTime (history ps r1 r2 r3 r4 r5)
-unfolding drawnStart
+unfolding drawnStart idNumber idFrom
 in-time ps r1 r2 r3 r4 r5 l1 l2 l3 l4 l5 x (inl e) = subst (λ x. x .receipt < drawnStart (x .event)) (sym e) l1
 in-time ps r1 r2 r3 r4 r5 l1 l2 l3 l4 l5 x (inr (inl e)) = subst (λ x. x .receipt < drawnStart (x .event)) (sym e) l3
 in-time ps r1 r2 r3 r4 r5 l1 l2 l3 l4 l5 x (inr (inr (inl e))) = subst (λ x. x .receipt < drawnStart (x .event)) (sym e) l2
@@ -155,6 +155,7 @@ other-clock (inl e) = let l : _≡_ {A = ℕ} 9 10 = ap (λ c. c .clock) e in om
 other-clock (inr m) = m
 
 other-id : In (drawnBack 6 0 2 100 10 20) (one ∷ []) → ⊥
+unfolding idNumber idFrom
 other-id (inl e) = let l : _≡_ {A = ℕ} 6 1 = ap idOf e in omega arith
 other-id (inr m) = m
 
@@ -168,56 +169,56 @@ other-program (inr (inl e)) = let l : _≡_ {A = ℕ} 1 2 = ap (λ a. a .primacy
 other-program (inr (inr m)) = m
 
 in-time-sample : Missed (prompt) (tardy)
-unfolding historyFrom note quickAccepted quickJoined quickCall quickChecks quickDoes jumps nextMoment idleFor advance second entriesFrom rowsAt rowsFrom rowsWith codeAt holdingAt heldAt taken claim better key drawnStart effectiveEnd effectiveStart usable has cut join big flat rowBytes outOfRange malformed sameEvent find late programChecks eventChecks cancelChecks clockChecks askChecks listChecks bestDefault holderIn answerFor does checks
+unfolding historyFrom note quickAccepted quickJoined quickCall quickChecks quickDoes jumps nextMoment idleFor advance second entriesFrom rowsAt rowsFrom rowsWith codeAt holdingAt heldAt taken claim better key drawnStart effectiveEnd effectiveStart usable has cut join big flat rowBytes outOfRange malformed sameEvent find late programChecks eventChecks cancelChecks clockChecks askChecks listChecks bestDefault holderIn answerFor does checks idNumber idFrom
 in-time-sample = record {
   premise = apart (prompt) (tardy) (small (brought one 9 none ∷ [])) (small (brought one 10 none ∷ [])) refl refl (λ s. let l : 10 < 10 = s .in-time-too (brought one 10 none) (inl refl) in omega arith);
   rows = differ (prompt) (tardy) refl;
 }
 
 cancellation-clocks-sample : Missed (cancelledBy 9) (cancelledBy 10)
-unfolding historyFrom note quickAccepted quickJoined quickCall quickChecks quickDoes jumps nextMoment idleFor advance second entriesFrom rowsAt rowsFrom rowsWith codeAt holdingAt heldAt taken claim better key drawnStart effectiveEnd effectiveStart usable has cut join big flat rowBytes outOfRange malformed sameEvent find late programChecks eventChecks cancelChecks clockChecks askChecks listChecks bestDefault holderIn answerFor does checks
+unfolding historyFrom note quickAccepted quickJoined quickCall quickChecks quickDoes jumps nextMoment idleFor advance second entriesFrom rowsAt rowsFrom rowsWith codeAt holdingAt heldAt taken claim better key drawnStart effectiveEnd effectiveStart usable has cut join big flat rowBytes outOfRange malformed sameEvent find late programChecks eventChecks cancelChecks clockChecks askChecks listChecks bestDefault holderIn answerFor does checks idNumber idFrom
 cancellation-clocks-sample = record {
   premise = apart (cancelledBy 9) (cancelledBy 10) (small (brought one 0 (some 9) ∷ [])) (small (brought one 0 (some 10) ∷ [])) refl refl (λ s. other-clock (s .cancellations (cancelled 9) .0 (inl refl)));
   rows = differ (cancelledBy 9) (cancelledBy 10) refl;
 }
 
 cancellations-sample : Missed (cancelledBy 9) (uncancelled)
-unfolding historyFrom note quickAccepted quickJoined quickCall quickChecks quickDoes jumps nextMoment idleFor advance second entriesFrom rowsAt rowsFrom rowsWith codeAt holdingAt heldAt taken claim better key drawnStart effectiveEnd effectiveStart usable has cut join big flat rowBytes outOfRange malformed sameEvent find late programChecks eventChecks cancelChecks clockChecks askChecks listChecks bestDefault holderIn answerFor does checks
+unfolding historyFrom note quickAccepted quickJoined quickCall quickChecks quickDoes jumps nextMoment idleFor advance second entriesFrom rowsAt rowsFrom rowsWith codeAt holdingAt heldAt taken claim better key drawnStart effectiveEnd effectiveStart usable has cut join big flat rowBytes outOfRange malformed sameEvent find late programChecks eventChecks cancelChecks clockChecks askChecks listChecks bestDefault holderIn answerFor does checks idNumber idFrom
 cancellations-sample = record {
   premise = apart (cancelledBy 9) (uncancelled) (small (brought one 0 (some 9) ∷ [])) (small (brought one 0 none ∷ [])) refl refl (λ s. s .cancellations (cancelled 9) .0 (inl refl));
   rows = differ (cancelledBy 9) (uncancelled) refl;
 }
 
 events-sample : Missed (uncancelled) (another)
-unfolding historyFrom note quickAccepted quickJoined quickCall quickChecks quickDoes jumps nextMoment idleFor advance second entriesFrom rowsAt rowsFrom rowsWith codeAt holdingAt heldAt taken claim better key drawnStart effectiveEnd effectiveStart usable has cut join big flat rowBytes outOfRange malformed sameEvent find late programChecks eventChecks cancelChecks clockChecks askChecks listChecks bestDefault holderIn answerFor does checks
+unfolding historyFrom note quickAccepted quickJoined quickCall quickChecks quickDoes jumps nextMoment idleFor advance second entriesFrom rowsAt rowsFrom rowsWith codeAt holdingAt heldAt taken claim better key drawnStart effectiveEnd effectiveStart usable has cut join big flat rowBytes outOfRange malformed sameEvent find late programChecks eventChecks cancelChecks clockChecks askChecks listChecks bestDefault holderIn answerFor does checks idNumber idFrom
 events-sample = record {
   premise = apart (uncancelled) (another) (small (brought one 0 none ∷ [])) (small (brought one 0 none ∷ brought (drawnBack 6 0 2 100 10 20) 0 none ∷ [])) refl refl (λ s. other-id (s .events (drawnBack 6 0 2 100 10 20) .1 (inr (inl refl))));
   rows = differ (uncancelled) (another) refl;
 }
 
 fields-sample : Missed (uncancelled) (redrawn)
-unfolding historyFrom note quickAccepted quickJoined quickCall quickChecks quickDoes jumps nextMoment idleFor advance second entriesFrom rowsAt rowsFrom rowsWith codeAt holdingAt heldAt taken claim better key drawnStart effectiveEnd effectiveStart usable has cut join big flat rowBytes outOfRange malformed sameEvent find late programChecks eventChecks cancelChecks clockChecks askChecks listChecks bestDefault holderIn answerFor does checks
+unfolding historyFrom note quickAccepted quickJoined quickCall quickChecks quickDoes jumps nextMoment idleFor advance second entriesFrom rowsAt rowsFrom rowsWith codeAt holdingAt heldAt taken claim better key drawnStart effectiveEnd effectiveStart usable has cut join big flat rowBytes outOfRange malformed sameEvent find late programChecks eventChecks cancelChecks clockChecks askChecks listChecks bestDefault holderIn answerFor does checks idNumber idFrom
 fields-sample = record {
   premise = apart (uncancelled) (redrawn) (small (brought one 0 none ∷ [])) (small (brought (drawnBack 1 0 1 100 11 20) 0 none ∷ [])) refl refl (λ s. other-draw (s .events one .0 (inl refl)));
   rows = differ (uncancelled) (redrawn) refl;
 }
 
 programs-sample : Missed (ranked 1 2) (ranked 2 1)
-unfolding historyFrom note quickAccepted quickJoined quickCall quickChecks quickDoes jumps nextMoment idleFor advance second entriesFrom rowsAt rowsFrom rowsWith codeAt holdingAt heldAt taken claim better key drawnStart effectiveEnd effectiveStart usable has cut join big flat rowBytes outOfRange malformed sameEvent find late programChecks eventChecks cancelChecks clockChecks askChecks listChecks bestDefault holderIn answerFor does checks
+unfolding historyFrom note quickAccepted quickJoined quickCall quickChecks quickDoes jumps nextMoment idleFor advance second entriesFrom rowsAt rowsFrom rowsWith codeAt holdingAt heldAt taken claim better key drawnStart effectiveEnd effectiveStart usable has cut join big flat rowBytes outOfRange malformed sameEvent find late programChecks eventChecks cancelChecks clockChecks askChecks listChecks bestDefault holderIn answerFor does checks idNumber idFrom
 programs-sample = record {
   premise = apart (ranked 1 2) (ranked 2 1) (record { programs = added 1 2 1 ∷ added 0 1 1 ∷ []; brought = brought one 0 none ∷ brought (drawnBack 5 1 1 100 10 20) 0 none ∷ []; last = 14 }) (record { programs = added 1 1 1 ∷ added 0 2 1 ∷ []; brought = brought one 0 none ∷ brought (drawnBack 5 1 1 100 10 20) 0 none ∷ []; last = 14 }) refl refl (λ s. other-program (s .programs (added 0 1 1) .0 (inr (inl refl))));
   rows = differ (ranked 1 2) (ranked 2 1) refl;
 }
 
 last-sample : Missed (shorter) (longer)
-unfolding historyFrom note quickAccepted quickJoined quickCall quickChecks quickDoes jumps nextMoment idleFor advance second entriesFrom rowsAt rowsFrom rowsWith codeAt holdingAt heldAt taken claim better key drawnStart effectiveEnd effectiveStart usable has cut join big flat rowBytes outOfRange malformed sameEvent find late programChecks eventChecks cancelChecks clockChecks askChecks listChecks bestDefault holderIn answerFor does checks
+unfolding historyFrom note quickAccepted quickJoined quickCall quickChecks quickDoes jumps nextMoment idleFor advance second entriesFrom rowsAt rowsFrom rowsWith codeAt holdingAt heldAt taken claim better key drawnStart effectiveEnd effectiveStart usable has cut join big flat rowBytes outOfRange malformed sameEvent find late programChecks eventChecks cancelChecks clockChecks askChecks listChecks bestDefault holderIn answerFor does checks idNumber idFrom
 last-sample = record {
   premise = apart (shorter) (longer) (record { programs = first ∷ []; brought = brought one 0 none ∷ brought two 14 none ∷ []; last = 14 }) (record { programs = first ∷ []; brought = brought one 0 none ∷ brought two 14 none ∷ []; last = 15 }) refl refl (λ s. let l : _≡_ {A = ℕ} 14 15 = s .last in omega arith);
   rows = differ (shorter) (longer) refl;
 }
 
 pub sample : Sample
-unfolding plainly otherwise quickJoined quickCall quickChecks quickDoes jumps nextMoment idleFor advance second entriesFrom rowsAt rowsFrom rowsWith codeAt holdingAt heldAt taken claim better key drawnStart effectiveEnd effectiveStart usable has cut join big flat rowBytes outOfRange malformed sameEvent find late programChecks eventChecks cancelChecks clockChecks askChecks listChecks bestDefault holderIn answerFor does checks
+unfolding plainly otherwise quickJoined quickCall quickChecks quickDoes jumps nextMoment idleFor advance second entriesFrom rowsAt rowsFrom rowsWith codeAt holdingAt heldAt taken claim better key drawnStart effectiveEnd effectiveStart usable has cut join big flat rowBytes outOfRange malformed sameEvent find late programChecks eventChecks cancelChecks clockChecks askChecks listChecks bestDefault holderIn answerFor does checks idNumber idFrom
 sample = record {
   premise = premise;
   lengths = (refl, refl);

@@ -1,32 +1,32 @@
 -- Theorem A: every list of calls gives what the schedule of its history gives. By induction along the list: each call keeps the state that of the history.
 use mathlib.Core.Path.{_≡_, refl, sym, ap, _∙_, subst}
-use mathlib.Core.Logic.{_⊎_, inl, inr}
-use Prim.Native.Nat.{ℕ, _+_, _-_, _*_, _<_, _≤_}
-use mathlib.Core.Bool.{Bool, true, false, cond, not, _||_, _&&_, or-true}
+use mathlib.Core.Logic.{inl, inr}
+use Prim.Native.Nat.{ℕ, _+_, _-_, _*_, _≤_}
+use mathlib.Core.Bool.{Bool, true, false, cond, not, _||_, or-true}
 use mathlib.Core.List.{List, [], _∷_, _++_, map, map-map, append-assoc, append-nil}
 use mathlib.Core.Option.{Option, none, some}
 use native.Mathlib.Omega.{arith}
-use lib.Dec.{ltb, leb, eqb}
+use lib.Dec.{ltb, eqb}
 use lib.ListN.{set, length, take}
-use borrow.Author.Tests.{ltb-false, not-false, eqb-true}
+use borrow.Author.Tests.{ltb-false, not-false}
 use Rattle.rules.specs.declared.Event.{Event}
 use Rattle.rules.specs.declared.Entry.{Entry}
 use Rattle.rules.specs.declared.Program.{Program}
 use Rattle.rules.specs.declared.Schedule.{Schedule}
-use Rattle.rules.specs.Lists.{keep, insert, over, In, All}
+use Rattle.rules.specs.Lists.{keep, over, In}
 use Rattle.rules.specs.Records.{State, idOf, lastClock, programAt, fresh, pad}
 use Rattle.rules.specs.Period.{effectiveEnd}
 use Rattle.rules.specs.Moments.{passed}
-use Rattle.rules.specs.Bytes.{bytes, flat}
+use Rattle.rules.specs.Bytes.{bytes, rowSize}
 use Rattle.rules.specs.Sound.{malformed, sameEvent}
 use Rattle.rules.specs.Refusals.{firstOf, find, late, programChecks, eventChecks, clockChecks}
-use Rattle.rules.specs.Calls.{Call, addProgram, deliver, cancel, setClock, ask, list, programOf, receive, withEntries, mark, does, checks, refusal, accepts, accepted, refused, Outcome, call, run, written, joined}
+use Rattle.rules.specs.Calls.{program, event, cancellation, question, Call, bare, setClock, list, programOf, receive, withEntries, mark, does, checks, accepts, accepted, refused, Outcome, call, run, written, joined}
 use Rattle.rules.specs.History.{Added, Brought, History, noHistory, broughtId, known, bring, cancelBrought, note, acceptedCalls, historyFrom, historyOf}
 use Rattle.rules.specs.Schedules.{Timed, timed, living, seen, rowsTo, heldEvents, programsOf, timesOf, stateAt, stateOf, rowsOf}
 use Rattle.rules.proofs.Tests.{both, either-false, first-not}
 use Rattle.rules.proofs.ListLaws.{in-keep, in-map, map-in, insert-map}
 use Rattle.rules.proofs.Local.{timedId, cancelTimed, rows-deliver, rows-cancel, rows-program}
-use Rattle.rules.proofs.Second.{Past, past-on, advance-state, advance-rows}
+use Rattle.rules.proofs.Second.{past-on, advance-state, advance-rows}
 use Rattle.rules.proofs.Kept.{Kept, ends, begins-later, late-not, over-before, new, kept-deliver, entries-deliver, kept-cancel, entries-cancel, kept-program, ranked, entries-program}
 use Rattle.rules.proofs.RowBytes.{bytes-append, bytes-read}
 use Rattle.rules.proofs.SoundState.{Sound, same-event}
@@ -49,13 +49,13 @@ in-known e (x ∷ bs) b (inl q) d = rw (sym (ap (λ b. b .event) q) ∙ d, event
 in-known e (x ∷ bs) b (inr m) d = rw (in-known e bs b m d, or-true)
 
 -- each program has a number of its own, at most 7
-abbrev pub Numbered : List Added → Type 0
-Numbered [] = Unit {0}
-Numbered (a ∷ rest) = (a .number ≤ 7) × (programAt (programsOf rest) (a .number) .added ≡ false) × Numbered rest
+abbrev pub OnceEach : List Added → Type 0
+OnceEach [] = Unit {0}
+OnceEach (a ∷ rest) = (a .number ≤ 7) × (programAt (programsOf rest) (a .number) .added ≡ false) × OnceEach rest
 
 pub record Inv (H : History) : Type 0 where
   pub kept : Kept (programsOf (H .programs)) (timesOf H) (H .last)
-  pub numbered : Numbered (H .programs)
+  pub numbered : OnceEach (H .programs)
 
 -- from a history to the next: the state that the call leaves, and the bytes of its rows
 pub record Next (H : History) (s : State) (w : List ℕ) (K : History) : Type 0 where
@@ -152,7 +152,7 @@ module _ (H : History) (v : Inv H) where
       }
 
   next-clock : (t : ℕ) (b : List ℕ) → c ≤ t
-      → Next H (passed (stateOf H) t .state) (take (17 * length (passed (stateOf H) t .rows)) (over (bytes (passed (stateOf H) t .rows)) b)) (record { programs = H .programs; brought = H .brought; last = t })
+      → Next H (passed (stateOf H) t .state) (take (rowSize * length (passed (stateOf H) t .rows)) (over (bytes (passed (stateOf H) t .rows)) b)) (record { programs = H .programs; brought = H .brought; last = t })
   next-clock t b l =
       let there : c + (t - c) ≡ t = omega arith in
       record {
@@ -177,24 +177,21 @@ module _ (H : History) (v : Inv H) where
 
   next-accepted : (a : Call) → eqb (firstOf (checks (stateOf H) a)) 0 ≡ true → Next H (does (stateOf H) a .state) (written a (accepted (does (stateOf H) a))) (note H a)
   unfolding checks does note
-  next-accepted (addProgram n p d) ok = next-program n p d ok
-  next-accepted (deliver e) ok = next-deliver e (find (idOf e) (heldEvents ps ts c)) refl ok
-  next-accepted (cancel i) ok = next-cancel i
+  next-accepted (bare (program n p d)) ok = next-program n p d ok
+  next-accepted (bare (event e)) ok = next-deliver e (find (idOf e) (heldEvents ps ts c)) refl ok
+  next-accepted (bare (cancellation i)) ok = next-cancel i
+  next-accepted (bare (question k)) ok = stay H v
   next-accepted (setClock t b) ok = next-clock t b (reached t (length (passed (stateOf H) t .rows)) (length b) ok)
-  next-accepted (ask k) ok = stay H v
   next-accepted (list r) ok = stay H v
 
 -- a refused call wrote nothing
 written-refused : (s : Schedule) (a : Call) → written a (refused s a) ≡ []
-written-refused s (addProgram n p d) = refl
-written-refused s (deliver e) = refl
-written-refused s (cancel i) = refl
+written-refused s (bare k) = refl
 written-refused s (setClock t b) = refl
-written-refused s (ask k) = refl
 written-refused s (list r) = refl
 
 -- from a history to the next, of schedules by value
-pub record Step (H : History) (s : Schedule) (w : List ℕ) (K : History) : Type 0 where
+pub record Leads (H : History) (s : Schedule) (w : List ℕ) (K : History) : Type 0 where
   pub state : s ≡ pad (stateOf K)
   pub rows : bytes (rowsOf H) ++ w ≡ bytes (rowsOf K)
   pub inv : Inv K
@@ -204,16 +201,16 @@ module _ (H : History) (v : Inv H) (u : Sound (stateOf H)) where
   abbrev s : Schedule
   s = pad (stateOf H)
 
-  step : (a : Call) → Step H (call s a .state) (written a (call s a)) (cond (accepts s a) (note H a) H)
+  step : (a : Call) → Leads H (call s a .state) (written a (call s a)) (cond (accepts s a) (note H a) H)
   step a =
-      subst (λ o. Step H (o .state) (written a o) (cond (accepts s a) (note H a) H)) (sym (call-pad (stateOf H) u a))
-      (subst (λ n. Step H (out (eqb (firstOf (checks (stateOf H) a)) 0) .state) (written a (out (eqb (firstOf (checks (stateOf H) a)) 0))) (cond (eqb n 0) (note H a) H))
+      subst (λ o. Leads H (o .state) (written a o) (cond (accepts s a) (note H a) H)) (sym (call-pad (stateOf H) u a))
+      (subst (λ n. Leads H (out (eqb (firstOf (checks (stateOf H) a)) 0) .state) (written a (out (eqb (firstOf (checks (stateOf H) a)) 0))) (cond (eqb n 0) (note H a) H))
       (sym (refusal-pad (stateOf H) u a)) (go (eqb (firstOf (checks (stateOf H) a)) 0) refl))
     where
       out : Bool → Outcome
       out b = cond b (accepted (does (stateOf H) a)) (refused s a)
 
-      go : (b : Bool) → eqb (firstOf (checks (stateOf H) a)) 0 ≡ b → Step H (out b .state) (written a (out b)) (cond b (note H a) H)
+      go : (b : Bool) → eqb (firstOf (checks (stateOf H) a)) 0 ≡ b → Leads H (out b .state) (written a (out b)) (cond b (note H a) H)
       go true ok =
           let n = next-accepted H v a ok in
           record { state = ap pad (n .state); rows = n .rows; inv = n .inv; sound = subst Sound (n .state) (sound-does (stateOf H) u a ok) }
@@ -227,7 +224,7 @@ history-cond true H a rest = refl
 history-cond false H a rest = refl
 
 pub all-steps : (H : History) → Inv H → Sound (stateOf H) → (s : Schedule) → s ≡ pad (stateOf H) → (xs : List Call)
-    → Step H (run s xs) (joined s xs) (historyFrom H (acceptedCalls s xs))
+    → Leads H (run s xs) (joined s xs) (historyFrom H (acceptedCalls s xs))
 unfolding run joined acceptedCalls historyFrom
 all-steps H v u s e [] = record { state = e; rows = append-nil (bytes (rowsOf H)); inv = v; sound = u }
 all-steps H v u s e (a ∷ xs) =
@@ -235,8 +232,8 @@ all-steps H v u s e (a ∷ xs) =
     let s′ = pad (stateOf H) in
     let t = call s′ a .state in
     let m = all-steps (cond (accepts s′ a) (note H a) H) (n .inv) (n .sound) t (n .state) xs in
-    subst (λ s. Step H (run s (a ∷ xs)) (joined s (a ∷ xs)) (historyFrom H (acceptedCalls s (a ∷ xs)))) (sym e)
-    (subst (λ K. Step H (run t xs) (written a (call s′ a) ++ joined t xs) K) (sym (history-cond (accepts s′ a) H a (acceptedCalls t xs)))
+    subst (λ s. Leads H (run s (a ∷ xs)) (joined s (a ∷ xs)) (historyFrom H (acceptedCalls s (a ∷ xs)))) (sym e)
+    (subst (λ K. Leads H (run t xs) (written a (call s′ a) ++ joined t xs) K) (sym (history-cond (accepts s′ a) H a (acceptedCalls t xs)))
     (record {
       state = m .state;
       rows = sym (append-assoc (bytes (rowsOf H)) (written a (call s′ a)) (joined t xs)) ∙ ap (λ w. w ++ joined t xs) (n .rows) ∙ m .rows;
@@ -250,6 +247,6 @@ start = record {
   numbered = tt;
 }
 
-pub scheduled : (cs : List Call) → Step noHistory (run (pad fresh) cs) (joined (pad fresh) cs) (historyOf cs)
+pub scheduled : (cs : List Call) → Leads noHistory (run (pad fresh) cs) (joined (pad fresh) cs) (historyOf cs)
 unfolding heldEvents
 scheduled cs = all-steps noHistory start sound-fresh (pad fresh) refl cs

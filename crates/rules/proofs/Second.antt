@@ -1,21 +1,21 @@
 -- A second on the state of a history leads to the state of the same history a second later, and gives that moment's rows.
-use mathlib.Core.Path.{_≡_, refl, sym, ap, ap₂, _∙_, fun-ext}
-use Prim.Native.Nat.{ℕ, zero, suc, _+_, _<_, _≤_}
+use mathlib.Core.Path.{_≡_, refl, sym, ap, _∙_, fun-ext}
+use Prim.Native.Nat.{ℕ, zero, suc, _+_, _≤_}
 use native.Mathlib.Nat.{add-zero}
 use mathlib.Core.Bool.{Bool, true, false, cond}
-use mathlib.Core.List.{List, [], _∷_, _++_, map, map-map, append-assoc, append-nil}
+use mathlib.Core.List.{List, _++_, map, map-map, append-assoc, append-nil}
 use mathlib.Core.Option.{Option, none, some}
 use native.Mathlib.Omega.{arith}
 use borrow.Author.Tests.{ltb-false, le-ltb, le-leb}
 use Rattle.rules.specs.declared.Entry.{Entry}
 use Rattle.rules.specs.declared.Program.{Program}
-use Rattle.rules.specs.Lists.{keep, In, All}
-use Rattle.rules.specs.Records.{State, cut}
+use Rattle.rules.specs.Lists.{keep, All}
+use Rattle.rules.specs.Records.{cut}
 use Rattle.rules.specs.Period.{effectiveEnd}
-use Rattle.rules.specs.Holding.{claim, taken, heldAt, Holding, holdingAt, withHolding}
-use Rattle.rules.specs.Rows.{Row, codeAt, rowsFrom, rowsAt}
-use Rattle.rules.specs.Moments.{Moved, entriesFrom, lasts, second, advance}
-use Rattle.rules.specs.Schedules.{Timed, goneBy, asEntry, holding, seen, rowsTo, living, heldEvents, stateAt}
+use Rattle.rules.specs.Holding.{claim, heldAt, Holding, holdingAt, withHolding}
+use Rattle.rules.specs.Rows.{codeAt, rowsFrom, rowsAt}
+use Rattle.rules.specs.Moments.{entriesFrom, lasts, second, advance}
+use Rattle.rules.specs.Schedules.{Timed, goneBy, holding, seen, rowsTo, living, heldEvents, stateAt}
 use Rattle.rules.proofs.ListLaws.{in-keep, keep-map, keep-keep, map-cong}
 use Rattle.rules.proofs.Claims.{claim-cancelled, claim-ended, code-ended, taken-keep, Kind, rows-eq, gives-none, nothing-held}
 

@@ -2,7 +2,7 @@
 use mathlib.Core.Path.{_≡_, refl, sym, ap, _∙_, subst}
 use mathlib.Core.Logic.{⊎-elim}
 use Prim.Native.Nat.{ℕ, zero, suc, _+_, _-_, _<_, _≤_}
-use mathlib.Core.Bool.{Bool, true, false, cond, not, _||_, _&&_}
+use mathlib.Core.Bool.{Bool, true, false, cond, not, _||_}
 use mathlib.Core.List.{List, [], _∷_, map}
 use mathlib.Core.Option.{Option, none, some}
 use mathlib.Core.Logic.{inl, inr}
@@ -13,25 +13,23 @@ use lib.Seq.{getD-set-other}
 use borrow.Author.Tests.{ltb-true, ltb-false, leb-false, not-false}
 use Rattle.rules.specs.declared.Event.{Event}
 use Rattle.rules.specs.declared.Entry.{Entry}
-use Rattle.rules.specs.declared.Program.{Program}
 use Rattle.rules.specs.declared.Schedule.{Schedule}
-use Rattle.rules.specs.Lists.{keep, insert, In, All, Pairwise}
+use Rattle.rules.specs.Lists.{keep, In, All, Pairwise}
 use Rattle.rules.specs.Records.{State, idOf, usable, has, mostEvents, lastClock, noProgram, programAt, fresh, view, pad}
-use Rattle.rules.specs.Period.{drawnStart, effectiveStart, effectiveEnd}
-use Rattle.rules.specs.Holding.{rankOf, better, claim, taken, heldAt, holdingAt, withHolding, endOf}
-use Rattle.rules.specs.Moments.{Moved, lasts, entriesFrom, second, advance, passed}
+use Rattle.rules.specs.Holding.{rankOf, better, claim, holdingAt, withHolding, endOf}
+use Rattle.rules.specs.Moments.{lasts, entriesFrom, second, advance, passed}
 use Rattle.rules.specs.Sound.{malformed, sound}
 use Rattle.rules.specs.Refusals.{firstOf, find, late, programChecks, eventChecks, clockChecks}
-use Rattle.rules.specs.Calls.{Call, addProgram, deliver, cancel, setClock, ask, list, entryId, entry, mark, receive, withEntries, programOf, does, checks, refusal, accepts, accepted, refused, call}
+use Rattle.rules.specs.Calls.{program, event, cancellation, question, Call, bare, setClock, list, entryId, entry, mark, receive, withEntries, programOf, does, checks, refusal, accepts, accepted, refused, call}
 use Rattle.rules.specs.Arrival.{Apart}
-use Rattle.rules.proofs.Tests.{both, either-false, each-true, first-not}
+use Rattle.rules.proofs.Tests.{both, either-false, first-not}
 use Rattle.rules.proofs.ListLaws.{in-keep, all-map, in-insert, asc-insert, asc-keep, asc-map, asc-weaken, keep-length, insert-length, in-set, in-replicate}
-use Rattle.rules.proofs.Masks.{has-cut, not-has, has-either}
+use Rattle.rules.proofs.Masks.{not-has, has-either}
 use Rattle.rules.proofs.Claims.{claim-cancelled, claim-early, nothing-held}
-use Rattle.rules.proofs.Kept.{begins-from, begins-later, late-not, begins-proper, find-none}
+use Rattle.rules.proofs.Kept.{begins-from, late-not, begins-proper, find-none}
 use Rattle.rules.proofs.Ranks.{better-one}
 use Rattle.rules.proofs.Holders.{taken-has, if-held}
-use Rattle.rules.proofs.SoundState.{SoundEntry, SoundProgram, ById, Sound, view-pad, sound-pad, sound-view}
+use Rattle.rules.proofs.SoundState.{SoundEntry, ById, Sound, view-pad, sound-pad, sound-view}
 
 -- A second.
 
@@ -194,11 +192,11 @@ module _ (s : State) (v : Sound s) where
   -- every accepted call keeps the rules
   pub sound-does : (a : Call) → eqb (firstOf (checks s a)) 0 ≡ true → Sound (does s a .state)
   unfolding checks does
-  sound-does (addProgram n p d) ok = sound-program n p d ok
-  sound-does (deliver e) ok = sound-deliver e (find (idOf e) (s .entries)) refl ok
-  sound-does (cancel i) ok = sound-cancel i
+  sound-does (bare (program n p d)) ok = sound-program n p d ok
+  sound-does (bare (event e)) ok = sound-deliver e (find (idOf e) (s .entries)) refl ok
+  sound-does (bare (cancellation i)) ok = sound-cancel i
+  sound-does (bare (question c)) ok = v
   sound-does (setClock t b) ok = sound-clock t (length (passed s t .rows)) (length b) ok
-  sound-does (ask c) ok = v
   sound-does (list r) ok = v
 
 pub sound-fresh : Sound fresh

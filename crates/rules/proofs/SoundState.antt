@@ -2,25 +2,25 @@
 use mathlib.Core.Path.{_≡_, refl, sym, ap, ap₂, _∙_}
 use Prim.Native.Nat.{ℕ, zero, suc, _-_, _<_, _≤_}
 use mathlib.Core.Bool.{Bool, true, false, cond, not, _&&_, _||_}
-use mathlib.Core.List.{List, [], _∷_, _++_}
+use mathlib.Core.List.{List, _++_}
 use native.Mathlib.Omega.{arith}
 use lib.Dec.{leb, ltb, eqb}
 use lib.ListN.{length, take, drop, replicate, take-append-drop, length-append, length-drop, length-take, length-replicate}
 use lib.Seq.{take-append-seam, drop-append-seam}
 use borrow.Author.Tests.{le-leb, leb-true, leb-false, lt-ltb, ltb-true, eq-eqb, eqb-true, not-true}
-use Rattle.rules.specs.declared.Id.{Id}
 use Rattle.rules.specs.declared.Event.{Event}
 use Rattle.rules.specs.declared.Entry.{Entry}
 use Rattle.rules.specs.declared.Program.{Program}
 use Rattle.rules.specs.declared.Schedule.{Schedule}
-use Rattle.rules.specs.Lists.{each, pairs, In, All, Pairwise}
+use Rattle.rules.specs.Lists.{each, pairs, All, Pairwise}
 use Rattle.rules.specs.Records.{State, idOf, usable, has, cut, mostEvents, lastClock, noProgram, noEvent, noEntry, programAt, view, pad}
 use Rattle.rules.specs.Period.{drawnStart}
 use Rattle.rules.specs.Holding.{endOf}
 use Rattle.rules.specs.Sound.{malformed, sameEvent, whole, withinLimits, soundProgram, unused, ascending, ofProgram, wellFormed, inPeriod, lasting, carried, heldSinceStart, noneIfCancelled, apart, soundEntry, sound}
 use Rattle.rules.specs.Calls.{entryId}
 use Rattle.rules.specs.Arrival.{Apart, OneHolder}
-use Rattle.rules.proofs.Tests.{both, each-true}
+use Rattle.rules.proofs.Tests.{each-true}
+use Rattle.rules.proofs.IdLaws.{same-id}
 use Rattle.rules.proofs.ListLaws.{each-all, all-each, pairs-pairwise, pairwise-pairs, replicated}
 use Rattle.rules.proofs.Masks.{cut-apart, apart-cut, cut-within, within-cut}
 
@@ -65,7 +65,7 @@ program-true p v = go (p .added) refl
 unused-true : (n : ℕ) → each unused (replicate n noEntry) ≡ true
 unfolding unused sameEvent
 unused-true zero = refl
-unused-true (suc n) = unused-true n
+unused-true (suc n) = rw (eq-eqb (idOf noEvent) (idOf noEvent) refl) (unused-true n)
 
 entry-true : (ps : List Program) (c : ℕ) (h : Entry) → SoundEntry ps c h → soundEntry ps c h ≡ true
 unfolding soundEntry ofProgram wellFormed inPeriod lasting carried heldSinceStart noneIfCancelled
@@ -179,7 +179,7 @@ same-event a b e =
     let r2 = each-true _ (eqb (a .controls) (b .controls)) (r3 .0) in
     let r1 = each-true (eqb (idOf a) (idOf b)) (eqb (a .program) (b .program)) (r2 .0) in
     λ i. record {
-      id = record { value = eqb-true (idOf a) (idOf b) (r1 .0) i };
+      id = same-id (a .id) (b .id) (eqb-true (idOf a) (idOf b) (r1 .0)) i;
       program = eqb-true (a .program) (b .program) (r1 .1) i;
       controls = eqb-true (a .controls) (b .controls) (r2 .1) i;
       created = eqb-true (a .created) (b .created) (r3 .1) i;

@@ -7,7 +7,7 @@ use lib.ListN.{getD}
 use Rattle.rules.specs.declared.Id.{Id}
 use Rattle.rules.specs.declared.Event.{Event}
 use Rattle.rules.specs.declared.Entry.{Entry}
-use Rattle.rules.specs.Records.{idOf}
+use Rattle.rules.specs.Records.{idSize, idFrom, idOf, eventOf, mostRows}
 use Rattle.rules.specs.Rows.{Row}
 
 -- the last n bytes of a number
@@ -30,37 +30,37 @@ unfoldable pub many : {A : Type 0} → (ℕ → List ℕ → A) → ℕ → ℕ 
 many f k zero at l = []
 many f k (suc n) at l = f at l ∷ many f k n (at + k) l
 
--- Response rows, a row's 17 bytes
+-- Response rows, a row's bytes: time, id, code; how many they are, and how many those of all rows that a clock call can give
+abbrev pub rowSize : ℕ
+rowSize = 8 + idSize + 1
+
+abbrev pub rowsSize : ℕ
+rowsSize = mostRows * rowSize
+
 unfoldable pub rowBytes : Row → List ℕ
-rowBytes r = big 8 (r .time) ++ (big 8 (r .id) ++ big 1 (r .code))
+rowBytes r = big 8 (r .time) ++ (big idSize (r .id) ++ big 1 (r .code))
 
 abbrev pub bytes : List Row → List ℕ
 bytes rs = flat rowBytes rs
 
--- 8 bytes of an id
+-- the bytes of an id
 abbrev pub idAt : ℕ → List ℕ → Id
-idAt at l = record { value = read 8 at l }
+idAt at l = idFrom (read idSize at l)
 
--- Frames and image, the 33 field bytes of an event
+-- Frames and image, the field bytes of an event, its id before all others; how many they are
+abbrev pub eventSize : ℕ
+eventSize = idSize + 25
+
 unfoldable pub eventBytes : Event → List ℕ
 eventBytes e =
-    big 8 (idOf e) ++ (big 1 (e .program) ++ (big 4 (e .controls) ++ (big 4 (e .created) ++ (big 4 (e .start) ++ (big 4 (e .duration)
+    big idSize (idOf e) ++ (big 1 (e .program) ++ (big 4 (e .controls) ++ (big 4 (e .created) ++ (big 4 (e .start) ++ (big 4 (e .duration)
     ++ (big 2 (e .«randomize_start») ++ (big 2 (e .«randomize_duration») ++ (big 2 (e .«start_draw») ++ big 2 (e .«duration_draw»)))))))))
 
 unfoldable pub eventAt : ℕ → List ℕ → Event
 eventAt at l =
-    record {
-      id = idAt at l;
-      program = read 1 (at + 8) l;
-      controls = read 4 (at + 9) l;
-      created = read 4 (at + 13) l;
-      start = read 4 (at + 17) l;
-      duration = read 4 (at + 21) l;
-      «randomize_start» = read 2 (at + 25) l;
-      «randomize_duration» = read 2 (at + 27) l;
-      «start_draw» = read 2 (at + 29) l;
-      «duration_draw» = read 2 (at + 31) l;
-    }
+    eventOf (read idSize at l) (read 1 (at + idSize) l) (read 4 (at + (idSize + 1)) l) (read 4 (at + (idSize + 5)) l)
+    (read 4 (at + (idSize + 9)) l) (read 4 (at + (idSize + 13)) l) (read 2 (at + (idSize + 17)) l) (read 2 (at + (idSize + 19)) l)
+    (read 2 (at + (idSize + 21)) l) (read 2 (at + (idSize + 23)) l)
 
 -- a mark is a byte, 1 or 0
 abbrev pub flag : Bool → List ℕ
@@ -69,9 +69,16 @@ flag b = cond b 1 0 ∷ []
 abbrev pub flagAt : ℕ → List ℕ → Bool
 flagAt at l = eqb (read 1 at l) 1
 
--- Frames and image, an event entry of 46 bytes
+-- Frames and image, an event entry: the event, effective start, held mask and mark; how many bytes they are, and where the mark stands
+abbrev pub entrySize : ℕ
+entrySize = eventSize + 13
+
+abbrev pub markAt : ℕ
+markAt = eventSize + 12
+
 unfoldable pub entryBytes : Entry → List ℕ
 entryBytes h = eventBytes (h .event) ++ (big 8 (h .begins) ++ (big 4 (h .held) ++ flag (h .cancelled)))
 
 unfoldable pub entryAt : ℕ → List ℕ → Entry
-entryAt at l = record { event = eventAt at l; begins = read 8 (at + 33) l; held = read 4 (at + 41) l; cancelled = flagAt (at + 45) l }
+entryAt at l =
+    record { event = eventAt at l; begins = read 8 (at + eventSize) l; held = read 4 (at + (eventSize + 8)) l; cancelled = flagAt (at + markAt) l }

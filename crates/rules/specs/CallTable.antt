@@ -10,7 +10,7 @@ use Rattle.rules.specs.declared.Primacy.{Primacy}
 use Rattle.rules.specs.declared.Primacy.the-variants.{Usable, Reserved}
 use Rattle.rules.specs.declared.Answer.{Answer}
 use Rattle.rules.specs.declared.Answer.the-variants.{Refused, Code, Count, Holder, Default, Nobody}
-use Rattle.rules.specs.Records.{primacyIs, fresh, pad}
+use Rattle.rules.specs.Records.{primacyIs, fresh, pad, idFrom}
 use Rattle.rules.specs.Calls.{addProgram, deliver, cancel, setClock, ask, list, nothing, code, count, holder, default, nobody, numberOf, valueOf, counted}
 use Rattle.rules.specs.Script.{valueNumbers, Step, scriptsHold, _answers_, _refused_}
 use Rattle.rules.specs.Marks.{undrawn, same, replies}
@@ -177,7 +177,7 @@ answersHold =
     same (answerNumbers (Refused 13)) (13 ∷ valueNumbers nothing)
     && same (answerNumbers (Code 6)) (0 ∷ valueNumbers (code 6))
     && same (answerNumbers (Count 96)) (0 ∷ valueNumbers (count 96))
-    && same (answerNumbers (Holder (record { value = 9 }))) (0 ∷ valueNumbers (holder 9))
+    && same (answerNumbers (Holder (idFrom 9))) (0 ∷ valueNumbers (holder 9))
     && same (answerNumbers (Default 7)) (0 ∷ valueNumbers (default 7))
     && same (answerNumbers Nobody) (0 ∷ valueNumbers nobody)
     && same (map counted (nothing ∷ code 6 ∷ count 96 ∷ holder 9 ∷ default 7 ∷ nobody ∷ [])) (0 ∷ 0 ∷ 96 ∷ 0 ∷ 0 ∷ 0 ∷ [])

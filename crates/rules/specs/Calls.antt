@@ -1,5 +1,5 @@
 -- Calls: the six, as one function from a schedule by value and a call to what the call gives and leaves.
-use Prim.Native.Nat.{ℕ, zero, suc, _*_}
+use Prim.Native.Nat.{ℕ, suc, _*_}
 use mathlib.Core.Bool.{Bool, true, false, cond, not, _&&_, _||_}
 use mathlib.Core.List.{List, [], _∷_, _++_, map}
 use mathlib.Core.Option.{Option, none, some}
@@ -13,30 +13,59 @@ use Rattle.rules.specs.declared.Schedule.{Schedule}
 use Rattle.rules.specs.declared.Answer.{Answer}
 use Rattle.rules.specs.declared.Answer.the-variants.{Refused, Code, Count, Holder, Default, Nobody}
 use Rattle.rules.specs.Lists.{insert, over}
-use Rattle.rules.specs.Records.{State, idOf, has, view, pad}
+use Rattle.rules.specs.Records.{State, idNumber, idOf, has, view, pad}
 use Rattle.rules.specs.Period.{periodOf}
-use Rattle.rules.specs.Bytes.{bytes}
+use Rattle.rules.specs.Bytes.{rowSize, bytes}
 use Rattle.rules.specs.Moments.{Moved, passed}
 use Rattle.rules.specs.Sound.{sound}
 use Rattle.rules.specs.Refusals.{Check, _if_, firstOf, find, programChecks, eventChecks, cancelChecks, clockChecks, askChecks, listChecks}
 
--- Calls, call: with all that is given to it, the lent buffer and the lent list included
+-- Calls, the four that are lent nothing: by what is given
+pub data Bare : Type 0 where
+  program : (number primacy defaults : ℕ) → Bare
+  event : Event → Bare
+  cancellation : (id : ℕ) → Bare
+  question : (control : ℕ) → Bare
+
+-- Calls, call: with all that is given to it, by what is lent to it: nothing, a buffer or a list
 pub data Call : Type 0 where
-  addProgram : (number primacy defaults : ℕ) → Call
-  deliver : Event → Call
-  cancel : (id : ℕ) → Call
+  bare : Bare → Call
   setClock : (reading : ℕ) (buffer : List ℕ) → Call
-  ask : (control : ℕ) → Call
   list : (records : List Record) → Call
 
--- Calls, answer: a response code (0 says that nothing changed), a count, the holder of a control, the program of a default, or neither
+abbrev pub addProgram : (number primacy defaults : ℕ) → Call
+addProgram number primacy defaults = bare (program number primacy defaults)
+
+abbrev pub deliver : Event → Call
+deliver e = bare (event e)
+
+abbrev pub cancel : (id : ℕ) → Call
+cancel id = bare (cancellation id)
+
+abbrev pub ask : (control : ℕ) → Call
+ask control = bare (question control)
+
+-- Calls, ask for a control, what governs it: the event that holds it, else the program of its default, else neither
+pub data Governor : Type 0 where
+  byEvent : (id : ℕ) → Governor
+  byProgram : (program : ℕ) → Governor
+  byNone : Governor
+
+-- Calls, answer: a response code (0 says that nothing changed), a count, or what governs a control
 pub data Value : Type 0 where
   nothing : Value
   code : (n : ℕ) → Value
   count : (n : ℕ) → Value
-  holder : (id : ℕ) → Value
-  default : (program : ℕ) → Value
-  nobody : Value
+  governor : Governor → Value
+
+abbrev pub holder : (id : ℕ) → Value
+holder id = governor (byEvent id)
+
+abbrev pub default : (program : ℕ) → Value
+default p = governor (byProgram p)
+
+abbrev pub nobody : Value
+nobody = governor byNone
 
 -- Form by location, answers that are enums: document 01's number for each case, 0 if the call was accepted
 abbrev pub numberOf : Answer → ℕ
@@ -52,7 +81,7 @@ abbrev pub valueOf : Answer → Value
 valueOf (Refused n) = nothing
 valueOf (Code k) = code k
 valueOf (Count n) = count n
-valueOf (Holder i) = holder (i .value)
+valueOf (Holder i) = holder (idNumber i)
 valueOf (Default p) = default p
 valueOf Nobody = nobody
 
@@ -153,25 +182,35 @@ answerFor s c = holderIn c (s .entries) (defaultFor (bestDefault c 0 (s .program
 abbrev pub recordOf : Entry → Record
 recordOf h = record { entry = h }
 
--- Calls, what each does once no number refuses it
+-- Calls, what each does once no number refuses it; of those that are lent nothing, the state and the answer
+
+abbrev pub stateAfter : State → Bare → State
+stateAfter s (program n p d) = withProgram s n (programOf p d)
+stateAfter s (event e) = receive s e (find (idOf e) (s .entries))
+stateAfter s (cancellation i) = withEntries s (map (mark i) (s .entries))
+stateAfter s (question c) = s
+
+abbrev pub answerTo : State → Bare → Value
+answerTo s (program n p d) = code 0
+answerTo s (event e) = received (find (idOf e) (s .entries))
+answerTo s (cancellation i) = cancelCode (find i (s .entries))
+answerTo s (question c) = answerFor s c
+
 unfoldable pub does : State → Call → Done
-does s (addProgram n p d) = record { state = withProgram s n (programOf p d); value = code 0; bytes = []; records = [] }
-does s (deliver e) =
-    let old = find (idOf e) (s .entries) in
-    record { state = receive s e old; value = received old; bytes = []; records = [] }
-does s (cancel i) =
-    record { state = withEntries s (map (mark i) (s .entries)); value = cancelCode (find i (s .entries)); bytes = []; records = [] }
+does s (bare c) = record { state = stateAfter s c; value = answerTo s c; bytes = []; records = [] }
 does s (setClock t b) = clocked (passed s t) b
-does s (ask c) = record { state = s; value = answerFor s c; bytes = []; records = [] }
 does s (list r) = record { state = s; value = count (length (s .entries)); bytes = []; records = over (map recordOf (s .entries)) r }
 
 -- Numbers given, the checks that are a call's own
+abbrev pub bareChecks : State → Bare → List Check
+bareChecks s (program n p d) = programChecks s n p
+bareChecks s (event e) = eventChecks s e (find (idOf e) (s .entries))
+bareChecks s (cancellation i) = cancelChecks (find i (s .entries))
+bareChecks s (question c) = askChecks c
+
 unfoldable pub checks : State → Call → List Check
-checks s (addProgram n p d) = programChecks s n p
-checks s (deliver e) = eventChecks s e (find (idOf e) (s .entries))
-checks s (cancel i) = cancelChecks (find i (s .entries))
+checks s (bare c) = bareChecks s c
 checks s (setClock t b) = clockChecks (s .clock) t (length (passed s t .rows)) (length b)
-checks s (ask c) = askChecks c
 checks s (list r) = listChecks (length (s .entries)) (length r)
 
 -- Numbers given, refusal: the first number that applies, 0 for none; 2 stands before a call's own
@@ -183,19 +222,13 @@ abbrev pub accepts : Schedule → Call → Bool
 accepts s c = eqb (refusal s c) 0
 
 abbrev pub lentBytes : Call → List ℕ
-lentBytes (addProgram n p d) = []
-lentBytes (deliver e) = []
-lentBytes (cancel i) = []
+lentBytes (bare c) = []
 lentBytes (setClock t b) = b
-lentBytes (ask c) = []
 lentBytes (list r) = []
 
 abbrev pub lentList : Call → List Record
-lentList (addProgram n p d) = []
-lentList (deliver e) = []
-lentList (cancel i) = []
+lentList (bare c) = []
 lentList (setClock t b) = []
-lentList (ask c) = []
 lentList (list r) = r
 
 -- an accepted call
@@ -219,17 +252,12 @@ abbrev pub counted : Value → ℕ
 counted nothing = 0
 counted (code n) = 0
 counted (count n) = n
-counted (holder i) = 0
-counted (default p) = 0
-counted nobody = 0
+counted (governor g) = 0
 
 -- Call lists, the bytes of the rows that a call wrote, its buffer read as it ended
 abbrev pub written : Call → Outcome → List ℕ
-written (addProgram n p d) o = []
-written (deliver e) o = []
-written (cancel i) o = []
-written (setClock t b) o = take (17 * counted (o .value)) (o .bytes)
-written (ask c) o = []
+written (bare c) o = []
+written (setClock t b) o = take (rowSize * counted (o .value)) (o .bytes)
 written (list r) o = []
 
 -- Call lists, joined rows

@@ -15,13 +15,14 @@ use Rattle.rules.specs.declared.Program.{Program}
 use Rattle.rules.specs.declared.Record.{Record}
 use Rattle.rules.specs.declared.Schedule.{Schedule}
 use Rattle.rules.specs.Lists.{In, All, Pairwise}
-use Rattle.rules.specs.Records.{State, idOf, has, lastClock, programAt, fresh, view, pad}
+use Rattle.rules.specs.Records.{State, idOf, has, lastClock, mostEvents, mostRows, programAt, fresh, view, pad}
 use Rattle.rules.specs.Period.{effectiveEnd}
 use Rattle.rules.specs.Holding.{Rank, rankOf, better, heldAt, Holding, endOf}
 use Rattle.rules.specs.Rows.{Row, codeAt, Sooner}
 use Rattle.rules.specs.Moments.{second, passed}
 use Rattle.rules.specs.Sound.{malformed, sound}
 use Rattle.rules.specs.Refusals.{late}
+use Rattle.rules.specs.Bytes.{rowSize}
 use Rattle.rules.specs.Calls.{Call, deliver, cancel, setClock, list, code, count, numberOf, valueOf, Ranked, bestDefault, lentBytes, lentList, call}
 use Rattle.rules.specs.Image.{imageSize, image, loaded, imaged}
 use Rattle.rules.specs.Face.{Operation, asCall, idTooLong, shown, negative, lentAfter, face, faceFresh}
@@ -129,8 +130,8 @@ pub record MomentClauses : Type 0 where
   pub two-rows : (ps : List Program) (ts : List Timed) (t : ℕ) (x : Timed) → given ps ts t x ≤ 2
   -- the rows of a clock call go by time, then code in the order 3, 7, 2, then id
   pub in-order : (s : Schedule) → sound s ≡ true → (reading : ℕ) → Pairwise Sooner (passed (view s) reading .rows)
-  -- a clock call gives at most two for each held event, so at most 96
-  pub few-rows : (s : Schedule) → sound s ≡ true → (reading : ℕ) → length (passed (view s) reading .rows) ≤ 96
+  -- a clock call gives at most two for each held event, so at most `mostRows`
+  pub few-rows : (s : Schedule) → sound s ≡ true → (reading : ℕ) → length (passed (view s) reading .rows) ≤ mostRows
   -- where nothing begins or ends, a second changes the clock alone
   pub quiet : (s : Schedule) → sound s ≡ true → busy (suc (s .clock)) (view s .entries) ≡ false
       → second (view s) ≡ record { state = record { clock = suc (s .clock); programs = s .programs; entries = view s .entries }; rows = [] }
@@ -168,10 +169,10 @@ pub record CallClauses : Type 0 where
   pub cancelled-again : (s : Schedule) (i : ℕ) → sound s ≡ true → call s (cancel i) .number ≡ 0
       → (call (call s (cancel i) .state) (cancel i) .number ≡ 0) × (call (call s (cancel i) .state) (cancel i) .value ≡ code 0)
   -- 10 is given at 48 held events and not before, to an event to which no number before 10 applies
-  pub full : (s : Schedule) (e : Event) → sound s ≡ true → call s (deliver e) .number ≡ 10 ↔ ((length (view s .entries) ≡ 48) × Fit (view s) e)
+  pub full : (s : Schedule) (e : Event) → sound s ≡ true → call s (deliver e) .number ≡ 10 ↔ ((length (view s .entries) ≡ mostEvents) × Fit (view s) e)
   -- 13 is given for a buffer that is shorter than the rows, and not for one that they fit; a reading that 12 refuses gets 12
   pub too-short : (s : Schedule) (t : ℕ) (b : List ℕ) → sound s ≡ true
-      → call s (setClock t b) .number ≡ 13 ↔ ((s .clock ≤ t) × (t ≤ lastClock) × (length b < 17 * length (passed (view s) t .rows)))
+      → call s (setClock t b) .number ≡ 13 ↔ ((s .clock ≤ t) × (t ≤ lastClock) × (length b < rowSize * length (passed (view s) t .rows)))
   -- 13 is given for a list that is shorter than the held events, and not for one that they fit
   pub short-list : (s : Schedule) (r : List Record) → sound s ≡ true → call s (list r) .number ≡ 13 ↔ (length r < length (view s .entries))
   -- the same reading is accepted, whatever the buffer, and writes nothing
@@ -210,11 +211,11 @@ pub record FaceClauses : Type 0 where
       → face l op lent ≡ record { returned = negative (call (loaded l) (asCall op lent) .number); image = l; lent = lent }
   -- a call that is accepted by value answers and leaves the image as that call does; a question's holder needs room for its id
   pub same : (l : List ℕ) (op : Operation) (lent : List ℕ) → imaged l ≡ true → call (loaded l) (asCall op lent) .number ≡ 0
-      → idTooLong op (call (loaded l) (asCall op lent) .value) (length lent) ≡ false
+      → idTooLong (call (loaded l) (asCall op lent) .value) (length lent) ≡ false
       → face l op lent ≡ record { returned = shown (call (loaded l) (asCall op lent) .value); image = image (call (loaded l) (asCall op lent) .state); lent = lentAfter op (call (loaded l) (asCall op lent)) lent }
   -- a question whose holder's id does not fit is refused with 13, and no byte changes
   pub too-short : (l : List ℕ) (op : Operation) (lent : List ℕ) → imaged l ≡ true → call (loaded l) (asCall op lent) .number ≡ 0
-      → idTooLong op (call (loaded l) (asCall op lent) .value) (length lent) ≡ true
+      → idTooLong (call (loaded l) (asCall op lent) .value) (length lent) ≡ true
       → face l op lent ≡ record { returned = negative 13; image = l; lent = lent }
   -- the fresh image is accepted, and is that of the fresh schedule
   pub fresh : (l : List ℕ) → length l ≡ imageSize → (imaged (faceFresh l .image) ≡ true) × (loaded (faceFresh l .image) ≡ pad fresh)

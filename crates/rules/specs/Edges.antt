@@ -4,12 +4,12 @@ use mathlib.Core.List.{List, [], _∷_, _++_}
 use lib.ListN.{replicate}
 use Rattle.rules.specs.declared.Event.{Event}
 use Rattle.rules.specs.Calls.{Call, addProgram, deliver, cancel, setClock, ask, list, recordOf}
-use Rattle.rules.specs.Records.{noEntry}
-use Rattle.rules.specs.Marks.{minus, eventWith, undrawn, Edge}
+use Rattle.rules.specs.Records.{noEntry, eventOf}
+use Rattle.rules.specs.Marks.{minus, undrawn, Edge}
 
 -- program, controls, start, duration, randomisations, draws
 abbrev event : ℕ → ℕ → ℕ → ℕ → ℕ → ℕ → ℕ → ℕ → Event
-event program controls start duration rs rd sd dd = eventWith 1 program controls 0 start duration rs rd sd dd
+event program controls start duration rs rd sd dd = eventOf 1 program controls 0 start duration rs rd sd dd
 
 abbrev plain : ℕ → ℕ → Event
 plain start duration = event 0 1 start duration 0 0 0 0

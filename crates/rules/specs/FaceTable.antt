@@ -7,11 +7,11 @@ use lib.Dec.{eqb}
 use lib.ListN.{replicate}
 use Rattle.rules.specs.declared.Event.{Event}
 use Rattle.rules.specs.Lists.{overAt, All}
-use Rattle.rules.specs.Records.{fresh, pad}
+use Rattle.rules.specs.Records.{fresh, pad, eventOf}
 use Rattle.rules.specs.Calls.{Call, addProgram, deliver, cancel, setClock, run}
 use Rattle.rules.specs.Image.{loaded, imaged}
 use Rattle.rules.specs.Face.{Operation, addsProgram, delivers, cancels, setsClock, asks, lists, FaceOutcome, face, faceFresh}
-use Rattle.rules.specs.Marks.{eventWith, undrawn, same}
+use Rattle.rules.specs.Marks.{undrawn, same}
 
 -- an operation after calls by value: what is lent to it, what it returns, what the lent bytes hold then
 pub record FaceCase : Type 0 where
@@ -28,7 +28,7 @@ pub record FaceHolds (c : FaceCase) : Type 0 where
 
 -- an event whose bytes can be told apart: from 5000 to 5100 on controls 0 and 1
 abbrev one : Event
-one = eventWith 0x0102030405060708 7 0x03 0x0A0B0C0D 5000 100 1 2 0 0
+one = eventOf 0x0102030405060708 7 0x03 0x0A0B0C0D 5000 100 1 2 0 0
 
 -- the same on control 2, under a larger id
 abbrev two : Event

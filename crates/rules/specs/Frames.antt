@@ -8,7 +8,8 @@ use Rattle.rules.specs.declared.Frame.{Frame}
 use Rattle.rules.specs.declared.Frame.the-variants as frame
 use Rattle.rules.specs.declared.Line.{Line}
 use Rattle.rules.specs.declared.Line.the-variants.{Good, Bad}
-use Rattle.rules.specs.Bytes.{read, idAt, eventAt}
+use Rattle.rules.specs.Records.{idSize, idNumber}
+use Rattle.rules.specs.Bytes.{read, idAt, eventSize, eventAt}
 use Rattle.rules.specs.Calls.{Call, addProgram, deliver, cancel, setClock, ask}
 
 -- what a hexadecimal digit stands for, 0 to 9 and upper-case A to F; 16 for any other byte
@@ -31,14 +32,30 @@ unhex (x ∷ y ∷ rest) = (16 * digit x + digit y) ∷ unhex rest
 unfoldable pub isFrame : ℕ → ℕ → List ℕ → Bool
 isFrame kind size b = eqb (length b) size && eqb (getD b 0 0) kind
 
+-- Frames and image, the lengths of the frames: the kind, and then the fields
+abbrev pub eventFrame : ℕ
+eventFrame = 1 + eventSize
+
+abbrev pub cancelFrame : ℕ
+cancelFrame = 1 + idSize
+
+abbrev pub clockFrame : ℕ
+clockFrame = 9
+
+abbrev pub programFrame : ℕ
+programFrame = 7
+
+abbrev pub askFrame : ℕ
+askFrame = 2
+
 -- Frames and image, the five kinds with their lengths and fields
 unfoldable pub frameOf : List ℕ → Line
 frameOf b =
-    cond (isFrame 1 34 b) (Good (frame.Event (eventAt 1 b)))
-    (cond (isFrame 2 9 b) (Good (frame.Cancel (idAt 1 b)))
-    (cond (isFrame 3 9 b) (Good (frame.Clock (read 8 1 b)))
-    (cond (isFrame 4 7 b) (Good (frame.Program (read 1 1 b) (read 1 2 b) (read 4 3 b)))
-    (cond (isFrame 5 2 b) (Good (frame.Ask (read 1 1 b)))
+    cond (isFrame 1 eventFrame b) (Good (frame.Event (eventAt 1 b)))
+    (cond (isFrame 2 cancelFrame b) (Good (frame.Cancel (idAt 1 b)))
+    (cond (isFrame 3 clockFrame b) (Good (frame.Clock (read 8 1 b)))
+    (cond (isFrame 4 programFrame b) (Good (frame.Program (read 1 1 b) (read 1 2 b) (read 4 3 b)))
+    (cond (isFrame 5 askFrame b) (Good (frame.Ask (read 1 1 b)))
     Bad))))
 
 -- Numbers given, 1: a line that is no frame is `Bad`
@@ -48,7 +65,7 @@ lineOf l = cond (paired l) (frameOf (unhex l)) Bad
 -- the call that a frame stands for; a clock reading is given a buffer
 abbrev pub frameCall : Frame → List ℕ → Call
 frameCall (frame.Event e) room = deliver e
-frameCall (frame.Cancel i) room = cancel (i .value)
+frameCall (frame.Cancel i) room = cancel (idNumber i)
 frameCall (frame.Clock t) room = setClock t room
 frameCall (frame.Program n p d) room = addProgram n p d
 frameCall (frame.Ask c) room = ask c

@@ -10,7 +10,7 @@ use Rattle.rules.specs.Lists.{insert}
 use Rattle.rules.specs.Records.{idOf, fresh, pad}
 use Rattle.rules.specs.Period.{effectiveEnd}
 use Rattle.rules.specs.Sound.{sameEvent}
-use Rattle.rules.specs.Calls.{Call, addProgram, deliver, cancel, setClock, ask, list, accepts, call}
+use Rattle.rules.specs.Calls.{Bare, program, event, cancellation, question, Call, bare, setClock, list, accepts, call}
 
 -- Call lists, the accepted calls of a list that is run from a schedule
 unfoldable pub acceptedCalls : Schedule → List Call → List Call
@@ -65,13 +65,16 @@ cancelBrought i clock b =
     record { event = b .event; receipt = b .receipt; cancelled = cancelledAt (heldUnder i clock (b .event)) clock (b .cancelled) }
 
 -- a history, and then an accepted call
-unfoldable pub note : History → Call → History
-note H (addProgram n p d) =
+abbrev pub noteBare : History → Bare → History
+noteBare H (program n p d) =
     record { programs = record { number = n; primacy = p; defaults = d } ∷ H .programs; brought = H .brought; last = H .last }
-note H (deliver e) = record { programs = H .programs; brought = bring e (H .last) (H .brought); last = H .last }
-note H (cancel i) = record { programs = H .programs; brought = map (cancelBrought i (H .last)) (H .brought); last = H .last }
+noteBare H (event e) = record { programs = H .programs; brought = bring e (H .last) (H .brought); last = H .last }
+noteBare H (cancellation i) = record { programs = H .programs; brought = map (cancelBrought i (H .last)) (H .brought); last = H .last }
+noteBare H (question c) = H
+
+unfoldable pub note : History → Call → History
+note H (bare c) = noteBare H c
 note H (setClock t b) = record { programs = H .programs; brought = H .brought; last = t }
-note H (ask c) = H
 note H (list r) = H
 
 unfoldable pub historyFrom : History → List Call → History

@@ -1,22 +1,29 @@
--- Frames and image, the image: 2,265 bytes for a schedule, and back.
-use Prim.Native.Nat.{ℕ, zero, suc, _+_}
+-- Frames and image, the image: a schedule as bytes, and back.
+use Prim.Native.Nat.{ℕ, zero, suc, _+_, _*_}
 use mathlib.Core.Bool.{Bool, true, _&&_}
 use mathlib.Core.List.{List, _++_}
 use lib.Dec.{leb, eqb}
 use lib.ListN.{length}
 use Rattle.rules.specs.declared.Program.{Program}
 use Rattle.rules.specs.declared.Schedule.{Schedule}
-use Rattle.rules.specs.Records.{mostEvents}
-use Rattle.rules.specs.Bytes.{big, read, flat, many, flag, flagAt, entryBytes, entryAt}
+use Rattle.rules.specs.Records.{mostEvents, mostPrograms}
+use Rattle.rules.specs.Bytes.{big, read, flat, many, flag, flagAt, entrySize, markAt, entryBytes, entryAt}
 use Rattle.rules.specs.Sound.{sound}
 
--- bytes of an event entry
-abbrev pub entrySize : ℕ
-entrySize = 46
+-- bytes of a program entry
+abbrev pub programSize : ℕ
+programSize = 6
 
--- bytes of an image: 8 + 1 + 8 * 6 + 48 * 46
+-- where the programs stand in an image, behind clock and count, and where the events, behind the programs
+abbrev pub programsAt : ℕ
+programsAt = 9
+
+abbrev pub entriesAt : ℕ
+entriesAt = programsAt + mostPrograms * programSize
+
+-- bytes of an image
 abbrev pub imageSize : ℕ
-imageSize = 2265
+imageSize = entriesAt + mostEvents * entrySize
 
 -- Frames and image, a program entry: added, primacy, defaults
 unfoldable pub programBytes : Program → List ℕ
@@ -35,8 +42,8 @@ loaded l =
     record {
       clock = read 8 0 l;
       count = read 1 8 l;
-      programs = many programFrom 6 8 9 l;
-      entries = many entryAt entrySize mostEvents 57 l;
+      programs = many programFrom programSize mostPrograms programsAt l;
+      entries = many entryAt entrySize mostEvents entriesAt l;
     }
 
 -- whether n marks, k bytes from one to the next, are 0 or 1 each
@@ -46,7 +53,7 @@ marked k (suc n) at l = leb (read 1 at l) 1 && marked k n (at + k) l
 
 -- the length of an image, and its marks
 unfoldable pub formed : List ℕ → Bool
-formed l = eqb (length l) imageSize && (marked 6 8 9 l && marked entrySize mostEvents 102 l)
+formed l = eqb (length l) imageSize && (marked programSize mostPrograms programsAt l && marked entrySize mostEvents (entriesAt + markAt) l)
 
 -- Numbers given, 2: an image that keeps its length and every rule
 unfoldable pub imaged : List ℕ → Bool

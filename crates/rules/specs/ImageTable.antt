@@ -10,14 +10,15 @@ use Rattle.rules.specs.declared.Entry.{Entry}
 use Rattle.rules.specs.declared.Program.{Program}
 use Rattle.rules.specs.declared.Schedule.{Schedule}
 use Rattle.rules.specs.Lists.{overAt}
-use Rattle.rules.specs.Records.{noProgram, noEntry}
+use Rattle.rules.specs.Records.{mostEvents, mostPrograms, lastProgram, mostControls, lastControl, mostRows, idSize, idLimit, noProgram, noEntry, eventOf}
 use Rattle.rules.specs.Rows.{Row}
-use Rattle.rules.specs.Bytes.{rowBytes}
+use Rattle.rules.specs.Bytes.{rowSize, rowsSize, rowBytes, eventSize, entrySize, markAt}
 use Rattle.rules.specs.Sound.{sound}
 use Rattle.rules.specs.Calls.{Call, addProgram, deliver, cancel, setClock, ask, list, call}
-use Rattle.rules.specs.Image.{image, loaded, formed, imaged}
+use Rattle.rules.specs.Image.{programSize, programsAt, entriesAt, imageSize, image, loaded, formed, imaged}
+use Rattle.rules.specs.Frames.{eventFrame, cancelFrame, clockFrame, programFrame, askFrame}
 use Rattle.rules.specs.Script.{programNumbers, entryNumbers}
-use Rattle.rules.specs.Marks.{minus, eventWith, same}
+use Rattle.rules.specs.Marks.{minus, same}
 
 -- whether two tests come out the same
 abbrev agree : Bool → Bool → Bool
@@ -63,11 +64,11 @@ behind h = schedule 5000 0 noProgram (h ∷ [])
 
 -- an event of program 0, id 1, on control 0
 abbrev ofTimes : ℕ → ℕ → ℕ → ℕ → Event
-ofTimes start duration rs sd = eventWith 1 0 1 0 start duration rs 0 sd 0
+ofTimes start duration rs sd = eventOf 1 0 1 0 start duration rs 0 sd 0
 
 -- one on these controls, under this id, from 4900 to 5100
 abbrev plain : ℕ → ℕ → Event
-plain i controls = eventWith i 0 controls 0 4900 200 0 0 0 0
+plain i controls = eventOf i 0 controls 0 4900 200 0 0 0 0
 
 -- one that has begun and holds this mask
 abbrev begun : ℕ → ℕ → ℕ → Entry
@@ -113,19 +114,19 @@ ruleTable =
     ∷ broken (placed (program false 0 1))
     -- an unused event place is zero, in each of its fields
     ∷ good (behind noEntry)
-    ∷ broken (behind (entryAs (eventWith 1 0 0 0 0 0 0 0 0 0) 0 0 false))
-    ∷ broken (behind (entryAs (eventWith 0 1 0 0 0 0 0 0 0 0) 0 0 false))
-    ∷ broken (behind (entryAs (eventWith 0 0 1 0 0 0 0 0 0 0) 0 0 false))
-    ∷ broken (behind (entryAs (eventWith 0 0 0 1 0 0 0 0 0 0) 0 0 false))
-    ∷ broken (behind (entryAs (eventWith 0 0 0 0 1 0 0 0 0 0) 0 0 false))
-    ∷ broken (behind (entryAs (eventWith 0 0 0 0 0 1 0 0 0 0) 0 0 false))
-    ∷ broken (behind (entryAs (eventWith 0 0 0 0 0 0 1 0 0 0) 0 0 false))
-    ∷ broken (behind (entryAs (eventWith 0 0 0 0 0 0 0 1 0 0) 0 0 false))
-    ∷ broken (behind (entryAs (eventWith 0 0 0 0 0 0 0 0 1 0) 0 0 false))
-    ∷ broken (behind (entryAs (eventWith 0 0 0 0 0 0 0 0 0 1) 0 0 false))
-    ∷ broken (behind (entryAs (eventWith 0 0 0 0 0 0 0 0 0 0) 1 0 false))
-    ∷ broken (behind (entryAs (eventWith 0 0 0 0 0 0 0 0 0 0) 0 1 false))
-    ∷ broken (behind (entryAs (eventWith 0 0 0 0 0 0 0 0 0 0) 0 0 true))
+    ∷ broken (behind (entryAs (eventOf 1 0 0 0 0 0 0 0 0 0) 0 0 false))
+    ∷ broken (behind (entryAs (eventOf 0 1 0 0 0 0 0 0 0 0) 0 0 false))
+    ∷ broken (behind (entryAs (eventOf 0 0 1 0 0 0 0 0 0 0) 0 0 false))
+    ∷ broken (behind (entryAs (eventOf 0 0 0 1 0 0 0 0 0 0) 0 0 false))
+    ∷ broken (behind (entryAs (eventOf 0 0 0 0 1 0 0 0 0 0) 0 0 false))
+    ∷ broken (behind (entryAs (eventOf 0 0 0 0 0 1 0 0 0 0) 0 0 false))
+    ∷ broken (behind (entryAs (eventOf 0 0 0 0 0 0 1 0 0 0) 0 0 false))
+    ∷ broken (behind (entryAs (eventOf 0 0 0 0 0 0 0 1 0 0) 0 0 false))
+    ∷ broken (behind (entryAs (eventOf 0 0 0 0 0 0 0 0 1 0) 0 0 false))
+    ∷ broken (behind (entryAs (eventOf 0 0 0 0 0 0 0 0 0 1) 0 0 false))
+    ∷ broken (behind (entryAs (eventOf 0 0 0 0 0 0 0 0 0 0) 1 0 false))
+    ∷ broken (behind (entryAs (eventOf 0 0 0 0 0 0 0 0 0 0) 0 1 false))
+    ∷ broken (behind (entryAs (eventOf 0 0 0 0 0 0 0 0 0 0) 0 0 true))
     ∷ broken (behind (begun 1 1 0))
     ∷ broken (schedule 5000 1 noProgram (several 2))
     ∷ broken (schedule 5000 2 noProgram (several 1))
@@ -135,14 +136,14 @@ ruleTable =
     ∷ broken (holds (begun 2 1 0 ∷ begun 1 1 0 ∷ []))
     ∷ broken (holds (begun 2 1 0 ∷ begun 3 1 0 ∷ begun 2 1 0 ∷ []))
     -- events pass 3 and 6: the last program, one that was not added, one that is none
-    ∷ good (schedule 5000 1 (program true 1 0) (entryAs (eventWith 1 7 1 0 4900 200 0 0 0 0) 4900 1 false ∷ []))
-    ∷ broken (schedule 5000 1 noProgram (entryAs (eventWith 1 7 1 0 4900 200 0 0 0 0) 4900 1 false ∷ []))
-    ∷ broken (schedule 5000 1 (program true 1 0) (entryAs (eventWith 1 8 1 0 4900 200 0 0 0 0) 4900 1 false ∷ []))
+    ∷ good (schedule 5000 1 (program true 1 0) (entryAs (eventOf 1 7 1 0 4900 200 0 0 0 0) 4900 1 false ∷ []))
+    ∷ broken (schedule 5000 1 noProgram (entryAs (eventOf 1 7 1 0 4900 200 0 0 0 0) 4900 1 false ∷ []))
+    ∷ broken (schedule 5000 1 (program true 1 0) (entryAs (eventOf 1 8 1 0 4900 200 0 0 0 0) 4900 1 false ∷ []))
     -- events pass 7
     ∷ good (schedule 3600 1 noProgram (entryAs (ofTimes 3600 1 0 0) 3600 1 false ∷ []))
     ∷ broken (schedule 3599 1 noProgram (entryAs (ofTimes 3599 2 0 0) 3599 1 false ∷ []))
     ∷ broken (holds (entryAs (plain 1 0) 4900 0 false ∷ []))
-    ∷ broken (holds (entryAs (eventWith 1 0 1 0 4900 200 0 3600 0 3601) 4900 1 false ∷ []))
+    ∷ broken (holds (entryAs (eventOf 1 0 1 0 4900 200 0 3600 0 3601) 4900 1 false ∷ []))
     -- the effective start: not before the drawn start, before the effective end; also one that no run leaves
     ∷ good (schedule 0 1 noProgram (entryAs (ofTimes 5000 200 100 50) 5050 0 false ∷ []))
     ∷ broken (schedule 0 1 noProgram (entryAs (ofTimes 5000 200 100 50) 5049 0 false ∷ []))
@@ -224,7 +225,7 @@ numberTable =
     ∷ list [] on beyond gets 2
     -- a refused call has changed nothing
     ∷ addProgram 0 1 9 on lastSecond gets 4
-    ∷ deliver (eventWith 1 0 7 0 4900 200 0 0 0 0) on (holds (begun 1 1 1 ∷ [])) gets 8
+    ∷ deliver (eventOf 1 0 7 0 4900 200 0 0 0 0) on (holds (begun 1 1 1 ∷ [])) gets 8
     ∷ []
 
 -- THE BYTES
@@ -234,10 +235,10 @@ abbrev layout : Schedule
 layout =
     raw 0x0102030405060708 0x09
     (program true 0x0A 0x0B0C0D0E ∷ program false 0x0F 0x10111213 ∷ (replicate 5 noProgram ++ (program true 0x14 0x15161718 ∷ [])))
-    (entryAs (eventWith 0x2122232425262728 0x29 0x2A2B2C2D 0x2E2F3031 0x32333435 0x36373839 0x3A3B 0x3C3D 0x3E3F 0x4041) 0x4243444546474849 0x4A4B4C4D true
-    ∷ entryAs (eventWith 0x5152535455565758 0x59 0x5A5B5C5D 0x5E5F6061 0x62636465 0x66676869 0x6A6B 0x6C6D 0x6E6F 0x7071) 0x7273747576777879 0x7A7B7C7D false
+    (entryAs (eventOf 0x2122232425262728 0x29 0x2A2B2C2D 0x2E2F3031 0x32333435 0x36373839 0x3A3B 0x3C3D 0x3E3F 0x4041) 0x4243444546474849 0x4A4B4C4D true
+    ∷ entryAs (eventOf 0x5152535455565758 0x59 0x5A5B5C5D 0x5E5F6061 0x62636465 0x66676869 0x6A6B 0x6C6D 0x6E6F 0x7071) 0x7273747576777879 0x7A7B7C7D false
     ∷ (replicate 45 noEntry
-    ++ (entryAs (eventWith 0x8182838485868788 0x89 0x8A8B8C8D 0x8E8F9091 0x92939495 0x96979899 0x9A9B 0x9C9D 0x9E9F 0xA0A1) 0xA2A3A4A5A6A7A8A9 0xAAABACAD true ∷ [])))
+    ++ (entryAs (eventOf 0x8182838485868788 0x89 0x8A8B8C8D 0x8E8F9091 0x92939495 0x96979899 0x9A9B 0x9C9D 0x9E9F 0xA0A1) 0xA2A3A4A5A6A7A8A9 0xAAABACAD true ∷ [])))
 
 -- n numbers one after the other, from x on
 abbrev from : ℕ → ℕ → List ℕ
@@ -267,6 +268,17 @@ bytesHold =
     same (image layout) layoutBytes
     && same (numbers (loaded layoutBytes)) (numbers layout)
     && same (rowBytes rowLayout) (from 1 17)
+
+-- SIZES
+
+-- the sizes beside the numbers that document 01 gives for them
+unfoldable pub sizesHold : Bool
+sizesHold =
+    same (mostEvents ∷ mostPrograms ∷ lastProgram ∷ mostControls ∷ lastControl ∷ mostRows ∷ []) (48 ∷ 8 ∷ 7 ∷ 32 ∷ 31 ∷ 96 ∷ [])
+    && same (idSize ∷ idLimit ∷ rowSize ∷ rowsSize ∷ []) (8 ∷ 0x10000000000000000 ∷ 17 ∷ 1632 ∷ [])
+    && same (eventSize ∷ entrySize ∷ markAt ∷ []) (33 ∷ 46 ∷ 45 ∷ [])
+    && same (programSize ∷ programsAt ∷ entriesAt ∷ imageSize ∷ []) (6 ∷ 9 ∷ 57 ∷ 2265 ∷ [])
+    && same (eventFrame ∷ cancelFrame ∷ clockFrame ∷ programFrame ∷ askFrame ∷ []) (34 ∷ 9 ∷ 9 ∷ 7 ∷ 2 ∷ [])
 
 -- LENGTHS AND MARKS
 
@@ -327,6 +339,7 @@ pub record ImageTables : Type 0 where
   pub rules : rulesHold ruleTable ≡ true
   -- each byte stands where it belongs, and is read from there
   pub bytes : bytesHold ≡ true
+  pub sizes : sizesHold ≡ true
   -- lengths and marks
   pub forms : formsHold formTable ≡ true
   pub refused : refusedImages ≡ true

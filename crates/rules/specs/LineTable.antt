@@ -9,7 +9,7 @@ use Rattle.rules.specs.declared.Frame.the-variants as frame
 use Rattle.rules.specs.declared.Line.{Line}
 use Rattle.rules.specs.declared.Line.the-variants.{Good, Bad}
 use Rattle.rules.specs.Ascii.{ascii}
-use Rattle.rules.specs.Records.{idOf}
+use Rattle.rules.specs.Records.{idNumber, idOf}
 use Rattle.rules.specs.Frames.{lineOf}
 use Rattle.rules.specs.Marks.{same}
 
@@ -22,7 +22,7 @@ eventNumbers e =
 -- a frame's kind and fields
 abbrev pub frameNumbers : Frame → List ℕ
 frameNumbers (frame.Event e) = 1 ∷ eventNumbers e
-frameNumbers (frame.Cancel i) = 2 ∷ i .value ∷ []
+frameNumbers (frame.Cancel i) = 2 ∷ idNumber i ∷ []
 frameNumbers (frame.Clock t) = 3 ∷ t ∷ []
 frameNumbers (frame.Program n p d) = 4 ∷ n ∷ p ∷ d ∷ []
 frameNumbers (frame.Ask c) = 5 ∷ c ∷ []

@@ -8,10 +8,11 @@ use Rattle.rules.specs.declared.Event.{Event}
 use Rattle.rules.specs.declared.Period.{Period}
 use Rattle.rules.specs.declared.Record.{Record}
 use Rattle.rules.specs.declared.Schedule.{Schedule}
+use Rattle.rules.specs.Records.{eventOf}
 use Rattle.rules.specs.Period.{periodOf}
 use Rattle.rules.specs.Rows.{Row}
-use Rattle.rules.specs.Bytes.{bytes}
-use Rattle.rules.specs.Calls.{Call, addProgram, deliver, setClock, ask, Value, nothing, code, count, holder, default, nobody, Outcome, call, counted}
+use Rattle.rules.specs.Bytes.{rowSize, bytes}
+use Rattle.rules.specs.Calls.{Call, addProgram, deliver, setClock, ask, Governor, byEvent, byProgram, byNone, Value, nothing, code, count, governor, Outcome, call, counted}
 
 abbrev pub buffer : List ℕ
 buffer = replicate 136 0
@@ -20,29 +21,13 @@ buffer = replicate 136 0
 abbrev pub minus : ℕ → ℕ
 minus k = 65536 - k
 
--- an event: id, program, controls, creation time, start, duration, randomisations, draws
-abbrev pub eventWith : ℕ → ℕ → ℕ → ℕ → ℕ → ℕ → ℕ → ℕ → ℕ → ℕ → Event
-eventWith i program controls created start duration rs rd sd dd =
-    record {
-      id = record { value = i };
-      program = program;
-      controls = controls;
-      created = created;
-      start = start;
-      duration = duration;
-      «randomize_start» = rs;
-      «randomize_duration» = rd;
-      «start_draw» = sd;
-      «duration_draw» = dd;
-    }
-
 -- id, program, controls, creation time, start, duration; nothing drawn
 abbrev pub undrawn : ℕ → ℕ → ℕ → ℕ → ℕ → ℕ → Event
-undrawn i program controls created start duration = eventWith i program controls created start duration 0 0 0 0
+undrawn i program controls created start duration = eventOf i program controls created start duration 0 0 0 0
 
 -- id, program, controls, creation time, drawn start (the start 3,600 drawn back), duration
 abbrev pub drawnBack : ℕ → ℕ → ℕ → ℕ → ℕ → ℕ → Event
-drawnBack i program controls created start duration = eventWith i program controls created 3600 duration (minus 3600) 0 (minus (3600 - start)) 0
+drawnBack i program controls created start duration = eventOf i program controls created 3600 duration (minus 3600) 0 (minus (3600 - start)) 0
 
 -- what a host sees of a call
 pub record Reply : Type 0 where
@@ -60,7 +45,7 @@ replies s [] = []
 replies s (c ∷ cs) = let o = call s c in replyOf o ∷ replies (o .state) cs
 
 -- an answer that is fixed: the number of a refusal (0 for none) and the code
-pub record Answered : Type 0 where
+pub record FixedAnswer : Type 0 where
   pub number : ℕ
   pub code : ℕ
 
@@ -74,7 +59,7 @@ pub record Question : Type 0 where
 pub record Case : Type 0 where
   pub received : ℕ
   pub events : List Event
-  pub answers : List Answered
+  pub answers : List FixedAnswer
   pub periods : List Period
   pub rows : List Row
   pub holders : List Question
@@ -99,11 +84,9 @@ abbrev pub isCode : Value → ℕ → Bool
 isCode nothing k = eqb k 0
 isCode (code n) k = eqb n k
 isCode (count n) k = false
-isCode (holder i) k = false
-isCode (default p) k = false
-isCode nobody k = false
+isCode (governor g) k = false
 
-abbrev pub answersHold : List Answered → List Reply → Bool
+abbrev pub answersHold : List FixedAnswer → List Reply → Bool
 answersHold [] rs = true
 answersHold (a ∷ more) [] = false
 answersHold (a ∷ more) (r ∷ rs) = eqb (r .number) (a .number) && isCode (r .value) (a .code) && answersHold more rs
@@ -117,20 +100,23 @@ periodsHold clock (p ∷ ps) (e ∷ es) =
 -- the rows of all clock calls
 abbrev pub rowsIn : List Reply → List ℕ
 rowsIn [] = []
-rowsIn (r ∷ rs) = take (17 * counted (r .value)) (r .bytes) ++ rowsIn rs
+rowsIn (r ∷ rs) = take (rowSize * counted (r .value)) (r .bytes) ++ rowsIn rs
 
-abbrev pub holderIds : Value → List ℕ
-holderIds nothing = []
-holderIds (code n) = []
-holderIds (count n) = []
-holderIds (holder i) = i ∷ []
-holderIds (default p) = []
-holderIds nobody = []
+abbrev pub holderIds : Governor → List ℕ
+holderIds (byEvent i) = i ∷ []
+holderIds (byProgram p) = []
+holderIds byNone = []
+
+abbrev pub idsIn : Value → List ℕ
+idsIn nothing = []
+idsIn (code n) = []
+idsIn (count n) = []
+idsIn (governor g) = holderIds g
 
 -- the holders that the questions name
 abbrev pub holdersIn : List Reply → List ℕ
 holdersIn [] = []
-holdersIn (r ∷ rs) = holderIds (r .value) ++ holdersIn rs
+holdersIn (r ∷ rs) = idsIn (r .value) ++ holdersIn rs
 
 -- whether a case holds, of what `see` shows of a list of calls
 unfoldable pub caseHolds : (List Call → List Reply) → Case → Bool

@@ -1,5 +1,5 @@
 -- From an accepted image the rules run on: the seconds after a state, one by one, also after one that no run of calls leaves.
-use Prim.Native.Nat.{ℕ, _-_}
+use Prim.Native.Nat.{ℕ}
 use mathlib.Core.Bool.{Bool, true, false, _&&_}
 use mathlib.Core.List.{List, [], _∷_, _++_}
 use lib.Dec.{eqb}

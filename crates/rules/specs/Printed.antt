@@ -10,9 +10,9 @@ use Rattle.rules.specs.declared.Line.{Line}
 use Rattle.rules.specs.declared.Line.the-variants.{Good, Bad}
 use Rattle.rules.specs.declared.Schedule.{Schedule}
 use Rattle.rules.specs.Ascii.{ascii}
-use Rattle.rules.specs.Records.{idOf, fresh, pad}
-use Rattle.rules.specs.Bytes.{read}
-use Rattle.rules.specs.Calls.{Value, nothing, code, count, holder, default, nobody, Outcome, call, counted}
+use Rattle.rules.specs.Records.{idSize, idNumber, idOf, fresh, pad}
+use Rattle.rules.specs.Bytes.{read, rowSize, rowsSize}
+use Rattle.rules.specs.Calls.{Governor, byEvent, byProgram, byNone, Value, nothing, code, count, governor, Outcome, call, counted}
 use Rattle.rules.specs.Frames.{lineOf, frameCall}
 
 -- the lines of a text: a line feed ends one, and the last may lack it
@@ -29,9 +29,12 @@ unfoldable pub decimal : ℕ → ℕ → List ℕ
 decimal zero x = []
 decimal (suc n) x = cond (ltb x 10) ((48 + x) ∷ []) (decimal n (x / 10) ++ ((48 + x % 10) ∷ []))
 
--- a number below 2 ^ 64 has at most 20
+-- how many a printed number has at the most: all are below 2 ^ 64
+abbrev pub mostDigits : ℕ
+mostDigits = 20
+
 abbrev pub digits : ℕ → List ℕ
-digits x = decimal 20 x
+digits x = decimal mostDigits x
 
 abbrev pub space : List ℕ
 space = 32 ∷ []
@@ -52,35 +55,37 @@ abbrev pub codeText : ℕ → ℕ → Value → List ℕ
 codeText clock i nothing = []
 codeText clock i (code k) = cond (eqb k 0) [] (threeText clock i k)
 codeText clock i (count n) = []
-codeText clock i (holder h) = []
-codeText clock i (default p) = []
-codeText clock i nobody = []
+codeText clock i (governor g) = []
 
 -- the rows in a buffer
 unfoldable pub rowsText : ℕ → ℕ → List ℕ → List ℕ
 rowsText zero at b = []
-rowsText (suc n) at b = threeText (read 8 at b) (read 8 (at + 8) b) (read 1 (at + 16) b) ++ rowsText n (at + 17) b
+rowsText (suc n) at b =
+    threeText (read 8 at b) (read idSize (at + 8) b) (read 1 (at + (8 + idSize)) b) ++ rowsText n (at + rowSize) b
 
 -- a question: control event id, control default program, or control none
+abbrev pub governorText : ℕ → Governor → List ℕ
+governorText c (byEvent i) = digits c ++ (ascii " event " ++ (digits i ++ lineFeed))
+governorText c (byProgram p) = digits c ++ (ascii " default " ++ (digits p ++ lineFeed))
+governorText c byNone = digits c ++ (ascii " none" ++ lineFeed)
+
 abbrev pub askText : ℕ → Value → List ℕ
 askText c nothing = []
 askText c (code k) = []
 askText c (count n) = []
-askText c (holder i) = digits c ++ (ascii " event " ++ (digits i ++ lineFeed))
-askText c (default p) = digits c ++ (ascii " default " ++ (digits p ++ lineFeed))
-askText c nobody = digits c ++ (ascii " none" ++ lineFeed)
+askText c (governor g) = governorText c g
 
 -- an accepted frame
 abbrev pub frameText : ℕ → Frame → Outcome → List ℕ
 frameText clock (frame.Event e) o = codeText clock (idOf e) (o .value)
-frameText clock (frame.Cancel i) o = codeText clock (i .value) (o .value)
+frameText clock (frame.Cancel i) o = codeText clock (idNumber i) (o .value)
 frameText clock (frame.Clock t) o = rowsText (counted (o .value)) 0 (o .bytes)
 frameText clock (frame.Program n p d) o = []
 frameText clock (frame.Ask c) o = askText c (o .value)
 
--- a buffer that the rows of every clock call fit: 96 of 17 bytes
+-- a buffer that the rows of every clock call fit
 abbrev pub room : List ℕ
-room = replicate 1632 0
+room = replicate rowsSize 0
 
 -- what a line leaves and writes
 pub record Told : Type 0 where

@@ -1,10 +1,11 @@
 -- Records: limits, ids, primacies, masks, and the schedule as lists. A comment names the section of document 01 and the term that it renders.
-use Prim.Native.Nat.{ℕ, _-_, _/_, _%_, _^_}
+use Prim.Native.Nat.{ℕ, _-_, _*_, _/_, _%_, _^_}
 use mathlib.Core.Bool.{Bool, false, cond, _&&_, _||_}
 use mathlib.Core.List.{List, [], _++_}
 use lib.Bits.{bitAnd, bitOr, bitXor}
 use lib.Dec.{leb, eqb}
 use lib.ListN.{length, take, getD, replicate}
+use Rattle.rules.specs.declared.Id.{Id}
 use Rattle.rules.specs.declared.Primacy.{Primacy}
 use Rattle.rules.specs.declared.Primacy.the-variants.{Usable, Reserved}
 use Rattle.rules.specs.declared.Program.{Program}
@@ -20,9 +21,56 @@ mostEvents = 48
 abbrev pub lastClock : ℕ
 lastClock = 9000000000
 
--- Records, id: the handle as one number
+-- Records, programs: how many places there are, and the greatest number
+abbrev pub mostPrograms : ℕ
+mostPrograms = 8
+
+abbrev pub lastProgram : ℕ
+lastProgram = mostPrograms - 1
+
+-- Records, controls: how many a mask has, and the greatest number
+abbrev pub mostControls : ℕ
+mostControls = 32
+
+abbrev pub lastControl : ℕ
+lastControl = mostControls - 1
+
+-- Response rows: no clock call gives more, since an event gives at most two in its life
+abbrev pub mostRows : ℕ
+mostRows = 2 * mostEvents
+
+-- Records, id: how many bytes it has, and the number that every id is below
+abbrev pub idSize : ℕ
+idSize = 8
+
+abbrev pub idLimit : ℕ
+idLimit = 256 ^ idSize
+
+-- Records, id: the handle as one number, and the handle that a number is
+unfoldable pub idNumber : Id → ℕ
+idNumber i = i .value
+
+unfoldable pub idFrom : ℕ → Id
+idFrom n = record { value = n }
+
 abbrev pub idOf : Event → ℕ
-idOf e = e .id .value
+idOf e = idNumber (e .id)
+
+-- Records, event: from its fields, in their order
+abbrev pub eventOf : (id program controls created start duration randomizeStart randomizeDuration startDraw durationDraw : ℕ) → Event
+eventOf id program controls created start duration randomizeStart randomizeDuration startDraw durationDraw =
+    record {
+      id = idFrom id;
+      program = program;
+      controls = controls;
+      created = created;
+      start = start;
+      duration = duration;
+      «randomize_start» = randomizeStart;
+      «randomize_duration» = randomizeDuration;
+      «start_draw» = startDraw;
+      «duration_draw» = durationDraw;
+    }
 
 -- Records, primacy: one that may be used; any other is reserved
 unfoldable pub usable : ℕ → Bool
@@ -48,20 +96,9 @@ join a b = bitOr a b
 abbrev pub noProgram : Program
 noProgram = record { added = false; primacy = 0; defaults = 0 }
 
+-- every field zero
 abbrev pub noEvent : Event
-noEvent =
-    record {
-      id = record { value = 0 };
-      program = 0;
-      controls = 0;
-      created = 0;
-      start = 0;
-      duration = 0;
-      «randomize_start» = 0;
-      «randomize_duration» = 0;
-      «start_draw» = 0;
-      «duration_draw» = 0;
-    }
+noEvent = eventOf 0 0 0 0 0 0 0 0 0 0
 
 -- an event place that is not in use
 abbrev pub noEntry : Entry
@@ -79,7 +116,7 @@ programAt ps n = getD ps n noProgram
 
 -- Records, fresh schedule
 abbrev pub fresh : State
-fresh = record { clock = 0; programs = replicate 8 noProgram; entries = [] }
+fresh = record { clock = 0; programs = replicate mostPrograms noProgram; entries = [] }
 
 -- what a schedule by value says: its first `count` entries are held
 abbrev pub view : Schedule → State

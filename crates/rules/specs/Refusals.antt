@@ -7,8 +7,9 @@ use lib.Dec.{leb, ltb, eqb}
 use lib.ListN.{length}
 use Rattle.rules.specs.declared.Event.{Event}
 use Rattle.rules.specs.declared.Entry.{Entry}
-use Rattle.rules.specs.Records.{State, idOf, usable, mostEvents, lastClock, programAt}
+use Rattle.rules.specs.Records.{State, idOf, usable, mostEvents, lastClock, lastProgram, lastControl, programAt}
 use Rattle.rules.specs.Period.{effectiveEnd}
+use Rattle.rules.specs.Bytes.{rowSize}
 use Rattle.rules.specs.Sound.{sameEvent, malformed}
 
 -- a number, and whether it applies
@@ -46,7 +47,7 @@ late clock e = leb (e .start + e .duration) clock || leb (effectiveEnd e) (clock
 -- Numbers given, of adding a program: 3, 4, 5
 unfoldable pub programChecks : State → ℕ → ℕ → List Check
 programChecks s n primacy =
-    3 if ltb 7 n
+    3 if ltb lastProgram n
     ∷ 4 if programAt (s .programs) n .added
     ∷ 5 if not (usable primacy)
     ∷ []
@@ -54,7 +55,7 @@ programChecks s n primacy =
 -- Numbers given, of a delivery: 3, 6 to 10; `old` is what is held under its id
 unfoldable pub eventChecks : State → Event → Option Entry → List Check
 eventChecks s e old =
-    3 if ltb 7 (e .program)
+    3 if ltb lastProgram (e .program)
     ∷ 6 if not (programAt (s .programs) (e .program) .added)
     ∷ 7 if malformed e
     ∷ 8 if differs old e
@@ -70,12 +71,12 @@ cancelChecks old = 11 if isNone old ∷ []
 unfoldable pub clockChecks : ℕ → ℕ → ℕ → ℕ → List Check
 clockChecks clock reading rows room =
     12 if (ltb reading clock || ltb lastClock reading)
-    ∷ 13 if ltb room (17 * rows)
+    ∷ 13 if ltb room (rowSize * rows)
     ∷ []
 
 -- Numbers given, of a question: 14
 unfoldable pub askChecks : ℕ → List Check
-askChecks control = 14 if ltb 31 control ∷ []
+askChecks control = 14 if ltb lastControl control ∷ []
 
 -- Numbers given, of a listing: 13; `held` records are to be written into `room` places
 unfoldable pub listChecks : ℕ → ℕ → List Check

@@ -6,18 +6,21 @@ use lib.Dec.{eqb}
 use Rattle.rules.specs.declared.Program.{Program}
 use Rattle.rules.specs.declared.Entry.{Entry}
 use Rattle.rules.specs.declared.Record.{Record}
-use Rattle.rules.specs.Calls.{Call, Value, nothing, code, count, holder, default, nobody, lentBytes, lentList}
+use Rattle.rules.specs.Calls.{Call, Governor, byEvent, byProgram, byNone, Value, nothing, code, count, governor, lentBytes, lentList}
 use Rattle.rules.specs.LineTable.{eventNumbers}
 use Rattle.rules.specs.Marks.{Reply, same}
 
 -- an answer as numbers
+abbrev pub governorNumbers : Governor → List ℕ
+governorNumbers (byEvent i) = 3 ∷ i ∷ []
+governorNumbers (byProgram p) = 4 ∷ p ∷ []
+governorNumbers byNone = 5 ∷ []
+
 abbrev pub valueNumbers : Value → List ℕ
 valueNumbers nothing = 0 ∷ []
 valueNumbers (code n) = 1 ∷ n ∷ []
 valueNumbers (count n) = 2 ∷ n ∷ []
-valueNumbers (holder i) = 3 ∷ i ∷ []
-valueNumbers (default p) = 4 ∷ p ∷ []
-valueNumbers nobody = 5 ∷ []
+valueNumbers (governor g) = governorNumbers g
 
 -- programs as numbers, three for each place
 abbrev pub programNumbers : List Program → List ℕ

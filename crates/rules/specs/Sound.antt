@@ -9,7 +9,7 @@ use Rattle.rules.specs.declared.Entry.{Entry}
 use Rattle.rules.specs.declared.Program.{Program}
 use Rattle.rules.specs.declared.Schedule.{Schedule}
 use Rattle.rules.specs.Lists.{each, pairs}
-use Rattle.rules.specs.Records.{idOf, usable, cut, mostEvents, lastClock, noEvent, programAt}
+use Rattle.rules.specs.Records.{idOf, usable, cut, mostEvents, mostPrograms, lastProgram, lastClock, noEvent, programAt}
 use Rattle.rules.specs.Period.{lift, drawnStart}
 use Rattle.rules.specs.Holding.{endOf}
 
@@ -42,7 +42,7 @@ sameEvent a b =
 
 -- the two arrays have their places: every schedule given by value does
 unfoldable pub whole : Schedule → Bool
-whole s = eqb (length (s .programs)) 8 && eqb (length (s .entries)) mostEvents
+whole s = eqb (length (s .programs)) mostPrograms && eqb (length (s .entries)) mostEvents
 
 -- limits
 unfoldable pub withinLimits : Schedule → Bool
@@ -62,7 +62,7 @@ ascending h o = ltb (idOf (h .event)) (idOf (o .event))
 
 -- the event passes 3 and 6
 unfoldable pub ofProgram : List Program → Entry → Bool
-ofProgram ps h = leb (h .event .program) 7 && programAt ps (h .event .program) .added
+ofProgram ps h = leb (h .event .program) lastProgram && programAt ps (h .event .program) .added
 
 -- the event passes 7
 unfoldable pub wellFormed : Entry → Bool

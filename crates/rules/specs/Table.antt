@@ -3,8 +3,9 @@ use Prim.Native.Nat.{ℕ}
 use mathlib.Core.List.{List, [], _∷_}
 use Rattle.rules.specs.declared.Event.{Event}
 use Rattle.rules.specs.declared.Period.{Period}
+use Rattle.rules.specs.Records.{eventOf}
 use Rattle.rules.specs.Rows.{Row}
-use Rattle.rules.specs.Marks.{minus, eventWith, undrawn, Answered, Question, Case}
+use Rattle.rules.specs.Marks.{minus, undrawn, FixedAnswer, Question, Case}
 
 -- the one event: start 5000, duration 600
 abbrev one : Event
@@ -20,13 +21,13 @@ abbrev held : ℕ → ℕ → ℕ → Question
 held t c i = record { time = t; control = c; id = i }
 
 -- accepted with code 1
-abbrev new : Answered
+abbrev new : FixedAnswer
 new = record { number = 0; code = 1 }
 
-abbrev refused : ℕ → Answered
+abbrev refused : ℕ → FixedAnswer
 refused n = record { number = n; code = 0 }
 
-abbrev case : ℕ → List Event → List Answered → List Period → List Row → List Question → Case
+abbrev case : ℕ → List Event → List FixedAnswer → List Period → List Row → List Question → Case
 case r es ans ps rs hs = record { received = r; events = es; answers = ans; periods = ps; rows = rs; holders = hs }
 
 unfoldable pub table : List Case
@@ -39,15 +40,15 @@ table =
     ∷ case 5598 (one ∷ []) (new ∷ []) (period 5599 5600 ∷ []) (row 5599 1 2 ∷ row 5600 1 3 ∷ []) (held 5599 0 1 ∷ [])
     -- T4: received a second before its end
     ∷ case 5599 (one ∷ []) (refused 9 ∷ []) [] [] []
-    -- T5: start eventWith 300 back
-    ∷ case 4000 (eventWith 1 1 1 0 5000 600 (minus 300) 0 (minus 300) 0 ∷ []) (new ∷ []) (period 4700 5300 ∷ [])
+    -- T5: start eventOf 300 back
+    ∷ case 4000 (eventOf 1 1 1 0 5000 600 (minus 300) 0 (minus 300) 0 ∷ []) (new ∷ []) (period 4700 5300 ∷ [])
     (row 4700 1 2 ∷ row 5300 1 3 ∷ []) (held 4700 0 1 ∷ held 5299 0 1 ∷ [])
     -- T6, both cases: a start draw beyond its randomisation, and on the other side of 0
-    ∷ case 4000 (eventWith 1 1 1 0 5000 600 (minus 300) 0 (minus 301) 0 ∷ []) (refused 7 ∷ []) [] [] []
-    ∷ case 4000 (eventWith 1 1 1 0 5000 600 (minus 300) 0 1 0 ∷ []) (refused 7 ∷ []) [] [] []
+    ∷ case 4000 (eventOf 1 1 1 0 5000 600 (minus 300) 0 (minus 301) 0 ∷ []) (refused 7 ∷ []) [] [] []
+    ∷ case 4000 (eventOf 1 1 1 0 5000 600 (minus 300) 0 1 0 ∷ []) (refused 7 ∷ []) [] [] []
     -- T7, both cases: a drawn duration of 0, and of 1
-    ∷ case 4000 (eventWith 1 1 1 0 5000 10 0 (minus 10) 0 (minus 10) ∷ []) (refused 7 ∷ []) [] [] []
-    ∷ case 4000 (eventWith 1 1 1 0 5000 10 0 (minus 10) 0 (minus 9) ∷ []) (new ∷ []) (period 5000 5001 ∷ [])
+    ∷ case 4000 (eventOf 1 1 1 0 5000 10 0 (minus 10) 0 (minus 10) ∷ []) (refused 7 ∷ []) [] [] []
+    ∷ case 4000 (eventOf 1 1 1 0 5000 10 0 (minus 10) 0 (minus 9) ∷ []) (new ∷ []) (period 5000 5001 ∷ [])
     (row 5000 1 2 ∷ row 5001 1 3 ∷ []) (held 5000 0 1 ∷ [])
     -- T8: the next, which is the worse, starts where the first ends
     ∷ case 4000 (undrawn 2 1 1 0 5000 600 ∷ undrawn 1 1 1 0 5600 60 ∷ []) (new ∷ new ∷ []) (period 5000 5600 ∷ period 5600 5660 ∷ [])

@@ -22,11 +22,20 @@ ghost use Rattle.rules.specs.History.{historyOf};
 ghost use Rattle.rules.specs.ScheduleTable.{ScheduleTables, historiesHold, historyTable};
 ghost use Rattle.rules.specs.MomentTable.{momentsHold, momentTable};
 
-mod times;
+mod ids;
+pub mod times;
 
-// Records. An id: the host's handle of an event. Definitions read it as one number.
+// Response rows. How many bytes a row has, how many rows a clock call gives at the most, and the bytes of them all.
+pub const ROW_SIZE: usize = 8 + Id::SIZE + 1;
+
+pub const MOST_ROWS: usize = 2 * Schedule::EVENTS;
+
+pub const ROWS_SIZE: usize = MOST_ROWS * ROW_SIZE;
+
+// Records. An id: the host's handle of an event. Definitions read it as one number (`idNumber`). Code outside this crate can't look inside: ids.rt has what
+// can be done with one, crates/octets its bytes, crates/text its digits.
 pub struct Id {
-    pub value: u64,
+    value: u64,
 }
 
 // Records. A program in its place, which is its number.
@@ -42,7 +51,7 @@ pub enum Primacy {
     Reserved,
 }
 
-// Records. An event, its 33 field bytes.
+// Records. An event.
 pub struct Event {
     pub id: Id,
     pub program: u8,
@@ -86,8 +95,8 @@ pub struct Record {
 pub struct Schedule {
     pub clock: u64,
     pub count: usize,
-    pub programs: [Program; 8],
-    pub entries: [Entry; 48],
+    pub programs: [Program; Schedule::PROGRAMS],
+    pub entries: [Entry; Schedule::EVENTS],
 }
 
 // What a call answers.
@@ -114,13 +123,24 @@ pub enum Line {
     Bad,
 }
 
+impl Program {
+    // Records. The greatest number.
+    pub const LAST: u8 = 7;
+
+    // Frames and image. Bytes of a program entry.
+    pub const SIZE: usize = 6;
+}
+
 impl Event {
+    // Frames and image. Bytes of its fields.
+    pub const SIZE: usize = Id::SIZE + 25;
+
     // All fields zero.
     pub fn none() -> Event
         ensures { λ r. ⌜ r ≡ noEvent ⌝ }
     {
         Event {
-            id: Id { value: 0 },
+            id: Id::of(0),
             program: 0,
             controls: 0,
             created: 0,
@@ -135,6 +155,11 @@ impl Event {
 }
 
 impl Entry {
+    // Frames and image. Bytes of an event entry, and the place of its mark among them.
+    pub const SIZE: usize = Event::SIZE + 13;
+
+    pub const MARK: usize = Event::SIZE + 12;
+
     // A place that is not in use.
     pub fn none() -> Entry
         ensures { λ r. ⌜ r ≡ noEntry ⌝ }
@@ -155,6 +180,16 @@ impl Schedule {
     pub const EVENTS: usize = 48;
 
     pub const LAST_CLOCK: u64 = 9_000_000_000;
+
+    // Records. The greatest number of a control.
+    pub const LAST_CONTROL: u8 = 31;
+
+    // Frames and image. Where programs and events stand in an image, and its bytes.
+    pub const PROGRAMS_AT: usize = 9;
+
+    pub const ENTRIES_AT: usize = Schedule::PROGRAMS_AT + Schedule::PROGRAMS * Program::SIZE;
+
+    pub const SIZE: usize = Schedule::ENTRIES_AT + Schedule::EVENTS * Entry::SIZE;
 
     // Records. The fresh schedule: clock 0, no program, no event.
     pub fn fresh() -> Schedule
@@ -180,7 +215,8 @@ pub fn bench_marks()
     ensures { λ _. ⌜ allHold (replies (pad fresh)) table ≡ true ⌝ }
 {}
 
-// Numbers given: 3 to 14, each given on the one side of its edge and not on the other. Number 1 is in `lines_read` and `texts_printed`, number 2 in `images_tried`.
+// Numbers given: 3 to 14, each given on the one side of its edge and not on the other. Number 1 is in `lines_read` and `texts_printed`, number 2 in
+// `images_tried`.
 pub fn number_edges()
     ensures { λ _. ⌜ edgesHold (replies (pad fresh)) edges ≡ true ⌝ }
 {}

@@ -52,7 +52,8 @@ pub(crate) fn later(a: u64, b: u64) -> u64
     a
 }
 
-pub(crate) fn earlier(a: u64, b: u64) -> u64
+// The earlier of two times.
+pub fn earlier(a: u64, b: u64) -> u64
     ensures { λ r. ⌜ r ≡ min a b ⌝ }
 {
     if a < b {
@@ -96,7 +97,7 @@ impl Event {
     pub fn equals(self, other: Event) -> bool
         ensures { λ r. ⌜ r ≡ sameEvent self other ⌝ }
     {
-        (self.id.value == other.id.value)
+        self.id.equals(other.id)
             & (self.program == other.program)
             & (self.controls == other.controls)
             & (self.created == other.created)

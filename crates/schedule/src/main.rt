@@ -1,20 +1,13 @@
 // The program `schedule`: frames from standard input, one to a line, and what document 01 has printed for each on standard output. It reads and writes in
 // large pieces, and keeps no more of its input than one buffer. What is printed for the lines in it is what `calls::run` promises.
-ghost use mathlib.Core.Path.{_≡_};
-ghost use Prim.Native.Nat.{_-_, _≤_, _<_, min};
-ghost use mathlib.Core.Bool.{true};
-ghost use mathlib.Core.List.{[]};
-ghost use lib.ListN.{length, take, drop};
-ghost use Rattle.rules.specs.Sound.{sound};
-ghost use Rattle.calls.specs.Lines.{endedOf};
-ghost use Rattle.calls.specs.Whole.{GoesOn};
-ghost use Rattle.text.specs.Texts.{mostText};
+ghost use Prim.Native.Nat.{_<_};
+ghost use Rattle.schedule.specs.Pieces.{CanPrint, CanGoOn, Leaves, Within, KeepsLine, Rests};
 use libc::STDIN_FILENO;
 use libc::STDOUT_FILENO;
 use rules::Schedule;
 
-// A line of more bytes than this is no frame, whatever follows.
-const LONGEST: usize = 69;
+// No more bytes of a line can matter: one of so many is no frame, whatever follows.
+const KEPT: usize = frame::LONGEST_LINE + 1;
 
 // What the lines of a piece left: the schedule, how many bytes they were, and whether their texts could be written.
 struct Piece {
@@ -25,8 +18,8 @@ struct Piece {
 
 // Runs over all lines that end in a piece, and writes their texts. The schedule and the bytes that it leaves go on where the texts of these lines stop.
 fn print_lines(mut s: Schedule, piece: &[u8], out: &mut [u8]) -> Piece
-    requires { ⌜ (sound s ≡ true) × (mostText ≤ length (now out)) ⌝ }
-    ensures { λ r. ⌜ (sound (r .schedule) ≡ true) × (r .read ≤ length (now (piece .entry))) × (r .written ≡ true → endedOf (drop (r .read) (now (piece .entry))) ≡ []) × (r .written ≡ true → GoesOn s (now (piece .entry)) (r .schedule) (drop (r .read) (now (piece .entry)))) ⌝ }
+    requires { ⌜ CanPrint s (now out) ⌝ }
+    ensures { λ r. ⌜ Leaves s (now (piece .entry)) r ⌝ }
 {
     let mut from = 0;
     loop {
@@ -56,11 +49,11 @@ fn print_lines(mut s: Schedule, piece: &[u8], out: &mut [u8]) -> Piece
 
 // The line that has not ended yet goes to the front of the buffer, as much of it as can matter; how much that is.
 fn keep(buffer: &mut [u8], from: usize, to: usize) -> usize
-    requires { ⌜ (from ≤ to) × (to ≤ length (now buffer)) ⌝ }
-    ensures { λ r. ⌜ (r ≡ min 69 (to - from)) × (take r (now (buffer .exit)) ≡ take r (drop from (now (buffer .entry)))) ⌝ }
+    requires { ⌜ Within from to (now buffer) ⌝ }
+    ensures { λ r. ⌜ KeepsLine from to (now (buffer .entry)) (now (buffer .exit)) r ⌝ }
 {
     let mut n = 0;
-    while n < LONGEST {
+    while n < KEPT {
         if from + n == to {
             return n;
         }
@@ -79,8 +72,8 @@ struct Rest {
 
 // Reads a piece behind what is kept of a line. No byte more is the end of the input, and so is a read that fails.
 fn take_turn(s: Schedule, kept: usize, buffer: &mut [u8], out: &mut [u8]) -> Rest
-    requires { ⌜ (sound s ≡ true) × (kept ≤ 69) × (length (now buffer) ≡ 65536) × (mostText ≤ length (now out)) ⌝ }
-    ensures { λ r. ⌜ (sound (r .schedule) ≡ true) × (r .kept ≤ 69) ⌝ }
+    requires { ⌜ CanGoOn s kept (now buffer) (now out) ⌝ }
+    ensures { λ r. ⌜ Rests r ⌝ }
 {
     let got = libc::read(STDIN_FILENO, &mut buffer[kept..]);
     let to = kept + io::count(got, &buffer[kept..]);
@@ -102,7 +95,7 @@ fn take_turn(s: Schedule, kept: usize, buffer: &mut [u8], out: &mut [u8]) -> Res
 
 // The last line may lack its line feed.
 fn finish(s: Schedule, kept: usize, buffer: &mut [u8], out: &mut [u8])
-    requires { ⌜ (sound s ≡ true) × (kept ≤ 69) × (length (now buffer) ≡ 65536) × (mostText ≤ length (now out)) ⌝ }
+    requires { ⌜ CanGoOn s kept (now buffer) (now out) ⌝ }
 {
     if 0 < kept {
         buffer[kept] = b'\n';

@@ -94,13 +94,13 @@ regroup true true true x y z = refl
 
 module _ (ps : List Program) (clock : ℕ) where
   -- what the loop's variables say of the entries passed
-  pub record Passed (hs : List Entry) (ok : Bool) (used : ℕ) (more : Bool) (next : ℕ) : Type 0 where
+  pub record EntriesPassed (hs : List Entry) (ok : Bool) (used : ℕ) (more : Bool) (next : ℕ) : Type 0 where
     pub kept : ok ≡ heldRules ps clock hs
     pub union : used ≡ heldBy hs
     pub any : more ≡ some hs
     pub first : next ≡ firstId hs
 
-  pub start : (n : ℕ) (xs : List Entry) → Passed (drop n (take n xs)) true 0 false 0
+  pub start : (n : ℕ) (xs : List Entry) → EntriesPassed (drop n (take n xs)) true 0 false 0
   start n xs =
       rw (drop-of-length-le (take n xs) {i = n} (simp length-take (omega arith)))
       (record { kept = refl; union = refl; any = refl; first = refl })
@@ -114,7 +114,7 @@ module _ (ps : List Program) (clock : ℕ) where
 
     pub turn : {own before ok more : Bool} {used next : ℕ} → let h = getD xs (i - 1) d in
         own ≡ soundEntry ps clock h → before ≡ precedes more next h && clear used h
-        → Passed (drop i (take n xs)) ok used more next → Passed (drop (i - 1) (take n xs)) (own && (before && ok)) (join (h .held) used) true (idOf (h .event))
+        → EntriesPassed (drop i (take n xs)) ok used more next → EntriesPassed (drop (i - 1) (take n xs)) (own && (before && ok)) (join (h .held) used) true (idOf (h .event))
     turn o b p =
         let h = getD xs (i - 1) d in
         let hs = drop i (take n xs) in

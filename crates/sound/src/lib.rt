@@ -1,26 +1,27 @@
 // Refusal 2: whether a schedule by value keeps the rules of an image, each array in one pass.
 ghost use mathlib.Core.Path.{_≡_};
-ghost use Prim.Native.Nat.{_≤_, _<_};
+ghost use Prim.Native.Nat.{_≤_};
 ghost use mathlib.Core.Bool.{not, _&&_, _||_};
 ghost use mathlib.Core.List.{List};
 ghost use lib.Dec.{eqb, ltb};
 ghost use lib.ListN.{take, drop};
 ghost use Rattle.rules.specs.declared.Program.{Program};
 ghost use Rattle.rules.specs.Lists.{each};
-ghost use Rattle.rules.specs.Records.{idOf, cut, mostEvents, programAt};
+ghost use Rattle.rules.specs.Records.{idNumber, idOf, cut, lastProgram, mostEvents, programAt};
 ghost use Rattle.rules.specs.Sound.{soundProgram, unused, inPeriod, lasting, carried, heldSinceStart, noneIfCancelled, soundEntry, sound};
-ghost use Rattle.sound.specs.HeldRules.{heldRules};
+ghost use Rattle.sound.specs.HeldRules.{ProgramPlace, heldRules};
 use rules::Entry;
 use rules::Event;
+use rules::Id;
 use rules::Primacy;
 use rules::Program;
 use rules::Schedule;
 
 // Where a program stands: at its number. A number that is refused gets a place as well, so that every index is within the array.
 fn place(program: u8) -> usize
-    ensures { λ r. ⌜ (r < 8) × (program ≤ 7 → r ≡ program) ⌝ }
+    ensures { λ r. ⌜ ProgramPlace program r ⌝ }
 {
-    if program <= 7 {
+    if program <= Program::LAST {
         return program as usize;
     }
     0
@@ -66,17 +67,17 @@ fn is_rightly_held(h: Entry, clock: u64) -> bool
 
 // The rules of one entry by itself; `p` is its program, if its number is one.
 fn is_sound_entry(h: Entry, p: Program, clock: u64) -> bool
-    ensures { λ r. ⌜ ((ps : List Program) → (h .event .program ≤ 7 → programAt ps (h .event .program) ≡ p) → r ≡ soundEntry ps clock h) ⌝ }
+    ensures { λ r. ⌜ ((ps : List Program) → (h .event .program ≤ lastProgram → programAt ps (h .event .program) ≡ p) → r ≡ soundEntry ps clock h) ⌝ }
 {
-    ((h.event.program <= 7) & p.added)
+    ((h.event.program <= Program::LAST) & p.added)
         & (!h.event.is_malformed() & (is_in_period(h, clock) & is_rightly_held(h, clock)))
 }
 
 // An entry with those after it: `next` is the id of the first if there are any, `used` all that they hold.
-fn is_before(h: Entry, more: bool, next: u64, used: u32) -> bool
-    ensures { λ r. ⌜ r ≡ (not more || ltb (idOf (h .event)) next) && eqb (cut (h .held) used) (h .held) ⌝ }
+fn is_before(h: Entry, more: bool, next: Id, used: u32) -> bool
+    ensures { λ r. ⌜ r ≡ (not more || ltb (idOf (h .event)) (idNumber next)) && eqb (cut (h .held) used) (h .held) ⌝ }
 {
-    (!more | (h.event.id.value < next)) & (h.held ^ (h.held & used) == h.held)
+    (!more | h.event.id.is_below(next)) & (h.held ^ (h.held & used) == h.held)
 }
 
 fn has_sound_programs(s: Schedule) -> bool
@@ -112,7 +113,7 @@ fn has_sound_entries(s: Schedule) -> bool
     let mut ok = true;
     let mut used: u32 = 0;
     let mut more = false;
-    let mut next: u64 = 0;
+    let mut next = Id::of(0);
     let mut i = s.count;
     while 0 < i {
         i -= 1;
@@ -121,7 +122,8 @@ fn has_sound_entries(s: Schedule) -> bool
         ok = is_sound_entry(h, p, clock) & (is_before(h, more, next, used) & ok);
         used = h.held | used;
         more = true;
-        next = h.event.id.value;
+        let id = h.event.id;
+        next = id;
     }
     ok
 }

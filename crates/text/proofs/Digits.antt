@@ -13,7 +13,7 @@ use lib.Seq.{length-take-le, take-append-le, take-take, drop-drop, drop-at}
 use Rattle.rules.specs.Lists.{overAt}
 use Rattle.rules.specs.Printed.{decimal}
 use Rattle.rules.proofs.Over.{over-size}
-use Rattle.text.specs.Texts.{HasDigits, lastFour}
+use Rattle.text.specs.Texts.{HasDigits, lastFour, numberDigits}
 use Rattle.text.proofs.Printing.{put-one, decimal-one, decimal-more}
 
 pub some-digit : (n x : ℕ) → HasDigits n x → 0 < n
@@ -58,15 +58,15 @@ same-digits (suc n) (suc m) x h k = go (ltb x 10) refl (λ g. same-digits n m (x
     go true p f = rw p
     go false p f = rw (p, f (digit-less n x h (ltb-false x 10 p)))
 
--- a number below 2 ^ 64 has at most 20
-pub few-digits : (n x : ℕ) → HasDigits n x → x < 18446744073709551616 → n ≤ 20
-few-digits n x h k = go (ltb 20 n) refl
+-- a number below 2 ^ 64 has at most these
+pub few-digits : (n x : ℕ) → HasDigits n x → x < 18446744073709551616 → n ≤ numberDigits
+few-digits n x h k = go (ltb numberDigits n) refl
   where
-    go : (b : Bool) → ltb 20 n ≡ b → n ≤ 20
+    go : (b : Bool) → ltb numberDigits n ≡ b → n ≤ numberDigits
     go true p =
-        let most : 1000000000000000000000 ≤ 10 ^ n = pow-le-pow-right {n = 10} (omega arith) {i = 21} {j = n} (ltb-true 20 n p) in
+        let most : 1000000000000000000000 ≤ 10 ^ n = pow-le-pow-right {n = 10} (omega arith) {i = 21} {j = n} (ltb-true numberDigits n p) in
         absurd (omega (arith, h .from))
-    go false p = ltb-false 20 n p
+    go false p = ltb-false numberDigits n p
 
 -- a text over what was written behind it
 over-before : (at : ℕ) (s t l : List ℕ) → at + length s ≤ length l → overAt at s (overAt (at + length s) t l) ≡ overAt at (s ++ t) l
@@ -107,16 +107,16 @@ split-four n x h k =
     rw (a, b, d, e) at (split-then p (split-then q (split-then r s)))
 
 -- of the n digits of x the last ones stand in the buffer, and those of `rest`, i of them, are still to be written
-pub record Left (old : List ℕ) (at n x : ℕ) (new : List ℕ) (rest i : ℕ) : Type 0 where
+pub record DigitsLeft (old : List ℕ) (at n x : ℕ) (new : List ℕ) (rest i : ℕ) : Type 0 where
   pub digits : HasDigits i rest
   pub size : length new ≡ length old
   pub is : overAt at (decimal i rest) new ≡ overAt at (decimal n x) old
 
-pub left-all : {l : List ℕ} {at n x : ℕ} → HasDigits n x → Left l at n x l x n
+pub left-all : {l : List ℕ} {at n x : ℕ} → HasDigits n x → DigitsLeft l at n x l x n
 left-all h = record { digits = h; size = refl; is = refl }
 
-module _ {old : List ℕ} {at n x : ℕ} {new : List ℕ} {rest i : ℕ} (h : at + i ≤ length old) (l : Left old at n x new rest i) where
-  left-less : {last : List ℕ} {m front : ℕ} → Split i rest last m front → Left old at n x (overAt (at + m) last new) front m
+module _ {old : List ℕ} {at n x : ℕ} {new : List ℕ} {rest i : ℕ} (h : at + i ≤ length old) (l : DigitsLeft old at n x new rest i) where
+  left-less : {last : List ℕ} {m front : ℕ} → Split i rest last m front → DigitsLeft old at n x (overAt (at + m) last new) front m
   left-less {last} {m} {front} s =
       let e : at + length (decimal m front) ≡ at + m = omega (arith, has-length m front (s .digits)) in
       record {
@@ -125,10 +125,10 @@ module _ {old : List ℕ} {at n x : ℕ} {new : List ℕ} {rest i : ℕ} (h : at
         is = rw e at (over-before at (decimal m front) last new (omega (arith, s .count, l .size))) ∙ rw (s .is) at (l .is);
       }
 
-  pub left-one : 9 < rest → Left old at n x (set new (at + (i - 1)) (48 + rest % 10)) (rest / 10) (i - 1)
+  pub left-one : 9 < rest → DigitsLeft old at n x (set new (at + (i - 1)) (48 + rest % 10)) (rest / 10) (i - 1)
   left-one k =
       rw (put-one {l = new} {at = at + (i - 1)} (48 + rest % 10) (omega (arith, some-digit i rest (l .digits), l .size)) .is)
       (left-less (split-one i rest (l .digits) k))
 
-  pub left-four : 9999 < rest → Left old at n x (overAt (at + (i - 4)) (lastFour rest) new) (rest / 10000) (i - 4)
+  pub left-four : 9999 < rest → DigitsLeft old at n x (overAt (at + (i - 4)) (lastFour rest) new) (rest / 10000) (i - 4)
   left-four k = left-less (split-four i rest (l .digits) k)

@@ -1,3 +1,3 @@
 -- What belongs to no one function.
-pub mod Printing
-pub mod Digits
+pub mod Printing  -- texts one behind the other, and how long they are
+pub mod Digits  -- the digits of a number

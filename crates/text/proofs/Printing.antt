@@ -14,11 +14,12 @@ use types.Run.{OneOf, miss}
 use Rattle.rules.specs.declared.Answer.{Answer}
 use Rattle.rules.specs.declared.Answer.the-variants.{Refused, Code, Count, Holder, Default, Nobody}
 use Rattle.rules.proofs.Answer.{the-type as answers}
-use Rattle.rules.specs.Bytes.{read}
+use Rattle.rules.specs.Records.{idSize}
+use Rattle.rules.specs.Bytes.{read, rowSize}
 use Rattle.rules.specs.Calls.{valueOf}
 use Rattle.rules.specs.Printed.{decimal, digits, threeText, codeText, rowsText, askText}
 use Rattle.rules.proofs.Over.{over-then, over-none}
-use Rattle.text.specs.Texts.{Stands, ifRoom, rowText}
+use Rattle.text.specs.Texts.{Stands, numberDigits, idDigits, mostRow, ifRoom, rowText}
 
 module _ {l : List ℕ} {at : ℕ} where
   pub put-none : Stands l at [] l at
@@ -68,9 +69,9 @@ unfolding decimal
 decimal-more zero x h k = absurd (h refl)
 decimal-more (suc n) x h k = let e : suc n - 1 ≡ n = omega arith in rw (le-ltb x 10 k, e)
 
--- a number of at most 20 digits, and what follows it
-pub number-within : (x : ℕ) (w : List ℕ) {l m : List ℕ} {at r : ℕ} → Stands l at (digits x ++ w) m r → r ≤ at + (20 + length w)
-number-within x w p = omega (arith, p .end, length-append (digits x) w, decimal-length 20 x)
+-- a number, and what follows it
+pub number-within : (x : ℕ) (w : List ℕ) {l m : List ℕ} {at r : ℕ} → Stands l at (digits x ++ w) m r → r ≤ at + (numberDigits + length w)
+number-within x w p = omega (arith, p .end, length-append (digits x) w, decimal-length numberDigits x)
 
 -- Answers that give no text.
 
@@ -96,24 +97,24 @@ pub read-one : (at : ℕ) (l : List ℕ) → read 1 at l ≡ getD l at 0
 unfolding read
 read-one at l = let z : at + 0 ≡ at = omega arith in rw z (omega arith)
 
-pub three-length : (t i k : ℕ) → length (threeText t i k) ≤ 63
-three-length t i k = simp length-append (omega (arith, decimal-length 20 t, decimal-length 20 i, decimal-length 20 k))
+pub three-length : (t i k : ℕ) → length (threeText t i k) ≤ mostRow
+three-length t i k = simp length-append (omega (arith, decimal-length numberDigits t, decimal-length idDigits i, decimal-length numberDigits k))
 
 module _ (b : List ℕ) where
-  pub rows-length : (n at : ℕ) → length (rowsText n at b) ≤ 63 * n
+  pub rows-length : (n at : ℕ) → length (rowsText n at b) ≤ mostRow * n
   unfolding rowsText
   rows-length zero at = omega arith
   rows-length (suc n) at =
-      let three = three-length (read 8 at b) (read 8 (at + 8) b) (read 1 (at + 16) b) in
-      omega (arith, length-append (rowText at b) (rowsText n (at + 17) b), three, rows-length n (at + 17))
+      let three = three-length (read 8 at b) (read idSize (at + 8) b) (read 1 (at + (8 + idSize)) b) in
+      omega (arith, length-append (rowText at b) (rowsText n (at + rowSize) b), three, rows-length n (at + rowSize))
 
-  rows-last : (n at : ℕ) → rowsText (suc n) at b ≡ rowsText n at b ++ rowText (at + 17 * n) b
+  rows-last : (n at : ℕ) → rowsText (suc n) at b ≡ rowsText n at b ++ rowText (at + rowSize * n) b
   unfolding rowsText
-  rows-last zero at = let e : at + 17 * 0 ≡ at = omega arith in rw (e, append-nil)
+  rows-last zero at = let e : at + rowSize * 0 ≡ at = omega arith in rw (e, append-nil)
   rows-last (suc n) at =
-      let e : at + 17 * suc n ≡ at + 17 + 17 * n = omega arith in
-      rw e (ap (λ r. rowText at b ++ r) (rows-last n (at + 17)) ∙ sym (append-assoc (rowText at b) (rowsText n (at + 17) b) (rowText (at + 17 + 17 * n) b)))
+      let e : at + rowSize * suc n ≡ at + rowSize + rowSize * n = omega arith in
+      rw e (ap (λ r. rowText at b ++ r) (rows-last n (at + rowSize)) ∙ sym (append-assoc (rowText at b) (rowsText n (at + rowSize) b) (rowText (at + rowSize + rowSize * n) b)))
 
-  pub rows-next : {l m n : List ℕ} {at r s : ℕ} (i : ℕ) → at ≤ length l → Stands l at (rowsText i 0 b) m r → Stands m r (rowText (17 * i) b) n s
+  pub rows-next : {l m n : List ℕ} {at r s : ℕ} (i : ℕ) → at ≤ length l → Stands l at (rowsText i 0 b) m r → Stands m r (rowText (rowSize * i) b) n s
       → Stands l at (rowsText (i + 1) 0 b) n s
-  rows-next i h p q = let e : 0 + 17 * i ≡ 17 * i = omega arith in rw (add-one i, rows-last i 0, e) (put-then h p q)
+  rows-next i h p q = let e : 0 + rowSize * i ≡ rowSize * i = omega arith in rw (add-one i, rows-last i 0, e) (put-then h p q)

@@ -1,12 +1,13 @@
 -- Texts written into a buffer, one behind the other.
 use mathlib.Core.Path.{_≡_}
-use Prim.Native.Nat.{ℕ, _+_, _*_, _/_, _%_, _^_, _≤_, _<_}
+use Prim.Native.Nat.{ℕ, _+_, _*_, _/_, _%_, _^_, _≤_, _<_, max}
 use mathlib.Core.Bool.{cond}
 use mathlib.Core.List.{List, [], _∷_}
 use lib.Dec.{leb}
 use lib.ListN.{length}
 use Rattle.rules.specs.Lists.{overAt}
-use Rattle.rules.specs.Bytes.{read}
+use Rattle.rules.specs.Records.{idSize, mostRows}
+use Rattle.rules.specs.Bytes.{read, rowSize, rowsSize}
 use Rattle.rules.specs.Printed.{threeText}
 
 -- a text stands in a buffer from `at` on, and `behind` is the place behind it
@@ -23,13 +24,54 @@ pub record HasDigits (n x : ℕ) : Type 0 where
 abbrev pub lastFour : ℕ → List ℕ
 lastFour x = (48 + x / 1000 % 10) ∷ (48 + x / 100 % 10) ∷ (48 + x / 10 % 10) ∷ (48 + x % 10) ∷ []
 
--- no line's text is longer: 96 rows of three numbers of at most 20 digits
+-- a number below 2 ^ 64 has no more decimal digits, and an id no more than these
+abbrev pub numberDigits : ℕ
+numberDigits = 20
+
+abbrev pub idDigits : ℕ
+idDigits = 20
+
+-- a number, and an id, with the byte behind it
+abbrev pub mostNumber : ℕ
+mostNumber = numberDigits + 1
+
+abbrev pub mostId : ℕ
+mostId = idDigits + 1
+
+-- no refusal, no answer to a question and no row has a longer text: a refusal begins with a word of 8 bytes, and an answer has a control and then at most 8 bytes more before
+-- its number or id
+abbrev pub mostRefused : ℕ
+mostRefused = 8 + mostNumber
+
+abbrev pub mostAsk : ℕ
+mostAsk = mostNumber + 8 + max mostNumber mostId
+
+abbrev pub mostRow : ℕ
+mostRow = mostNumber + mostId + mostNumber
+
+-- no line's text is longer: as many rows as there can be
 abbrev pub mostText : ℕ
-mostText = 6048
+mostText = mostRows * mostRow
 
 -- the text of the row that stands at `at`
 abbrev pub rowText : ℕ → List ℕ → List ℕ
-rowText at b = threeText (read 8 at b) (read 8 (at + 8) b) (read 1 (at + 16) b)
+rowText at b = threeText (read 8 at b) (read idSize (at + 8) b) (read 1 (at + (8 + idSize)) b)
+
+-- a number has n digits, and there is room for them
+pub record DigitsFit (n x at : ℕ) (out : List ℕ) : Type 0 where
+  pub digits : HasDigits n x
+  pub room : at + n ≤ length out
+
+-- so many rows stand in a buffer from a place on, and there is room for their text
+pub record RowsFit (from count : ℕ) (rows : List ℕ) (at : ℕ) (out : List ℕ) : Type 0 where
+  pub there : from + rowSize * count ≤ length rows
+  pub room : at + mostRow * count ≤ length out
+
+-- there is room for any text, and rows are counted in a buffer of all that there can be
+pub record LineFits (at : ℕ) (out rows : List ℕ) (count : ℕ) : Type 0 where
+  pub room : at + mostText ≤ length out
+  pub there : length rows ≡ rowsSize
+  pub few : count ≤ mostRows
 
 -- a text, if a buffer has room for `most` bytes from `at` on
 abbrev pub ifRoom : ℕ → ℕ → List ℕ → List ℕ → List ℕ

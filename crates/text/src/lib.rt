@@ -6,17 +6,29 @@ ghost use mathlib.Core.Bool.{cond, _&&_};
 ghost use mathlib.Core.List.{[]};
 ghost use lib.Dec.{leb, eqb};
 ghost use lib.ListN.{length};
+ghost use Rattle.rules.specs.Records.{mostRows};
+ghost use Rattle.rules.specs.Bytes.{rowsSize};
 ghost use Rattle.rules.specs.Calls.{Outcome, numberOf, valueOf, counted};
 ghost use Rattle.rules.specs.Printed.{refusedText, frameText};
-ghost use Rattle.text.specs.Texts.{Stands, mostText, ifRoom};
+ghost use Rattle.text.specs.Texts.{Stands, mostRefused, mostText, ifRoom};
 
 mod writing;
 
 use rules::Answer;
 use rules::Frame;
 
-// Frames and image. The longest text of a line: 96 rows of three numbers of at most 20 digits.
-pub const MOST: usize = 6048;
+// The most decimal digits of a number, and of an id.
+const DIGITS: usize = 20;
+
+const ID_DIGITS: usize = 20;
+
+// The longest text of a refusal, with its word, and of a row: a time, an id and a code, each with the byte behind it.
+const REFUSED: usize = 8 + DIGITS + 1;
+
+const ROW: usize = DIGITS + 1 + ID_DIGITS + 1 + DIGITS + 1;
+
+// Frames and image. The longest text of a line: as many rows as there can be.
+pub const MOST: usize = rules::MOST_ROWS * ROW;
 
 fn has_room(length: usize, at: usize, most: usize) -> bool
     ensures { λ r. ⌜ r ≡ leb (at + most) length ⌝ }
@@ -30,21 +42,11 @@ fn has_room(length: usize, at: usize, most: usize) -> bool
     true
 }
 
-// Some bytes as they are.
-pub fn put(out: &mut [u8], at: usize, bytes: &[u8]) -> usize
-    ensures { λ r. ⌜ Stands (now (out .entry)) at (ifRoom (length (now (bytes .entry))) at (now (out .entry)) (now (bytes .entry))) (now (out .exit)) r ⌝ }
-{
-    if !has_room(out.len(), at, bytes.len()) {
-        return at;
-    }
-    writing::word(out, at, bytes)
-}
-
 // Frames and image: refused n.
 pub fn refused(out: &mut [u8], at: usize, n: u8) -> usize
-    ensures { λ r. ⌜ Stands (now (out .entry)) at (ifRoom 29 at (now (out .entry)) (refusedText n)) (now (out .exit)) r ⌝ }
+    ensures { λ r. ⌜ Stands (now (out .entry)) at (ifRoom mostRefused at (now (out .entry)) (refusedText n)) (now (out .exit)) r ⌝ }
 {
-    if !has_room(out.len(), at, 29) {
+    if !has_room(out.len(), at, REFUSED) {
         return at;
     }
     writing::refused(out, at, n)
@@ -54,13 +56,13 @@ pub fn refused(out: &mut [u8], at: usize, n: u8) -> usize
 pub fn told(out: &mut [u8], at: usize, clock: u64, f: Frame, answer: Answer, rows: &[u8]) -> usize
     ensures { λ r. ⌜ ((o : Outcome) → o .number ≡ numberOf answer → o .value ≡ valueOf answer → o .bytes ≡ now (rows .entry)
         → Stands (now (out .entry)) at
-        (cond (eqb (length (now (rows .entry))) 1632 && leb (counted (o .value)) 96)
+        (cond (eqb (length (now (rows .entry))) rowsSize && leb (counted (o .value)) mostRows)
         (ifRoom mostText at (now (out .entry)) (cond (eqb (o .number) 0) (frameText clock f o) (refusedText (o .number)))) []) (now (out .exit)) r) ⌝ }
 {
-    if rows.len() != 1632 {
+    if rows.len() != rules::ROWS_SIZE {
         return at;
     }
-    if 96 < answer.count() {
+    if rules::MOST_ROWS < answer.count() {
         return at;
     }
     if !has_room(out.len(), at, MOST) {

@@ -2,16 +2,24 @@
 ghost use mathlib.Core.Path.{_≡_};
 ghost use mathlib.Core.Bool.{cond};
 ghost use mathlib.Core.List.{[], _∷_, _++_};
-ghost use Prim.Native.Nat.{_+_, _*_, _≤_, _<_};
+ghost use Prim.Native.Nat.{_+_, _≤_, _<_};
 ghost use lib.Dec.{eqb};
 ghost use lib.ListN.{length};
 ghost use Rattle.rules.specs.Lists.{overAt};
+ghost use Rattle.rules.specs.Records.{idNumber};
 ghost use Rattle.rules.specs.Calls.{Outcome, numberOf, valueOf, counted};
 ghost use Rattle.rules.specs.Printed.{decimal, digits, space, refusedText, threeText, codeText, rowsText, askText, frameText};
-ghost use Rattle.text.specs.Texts.{HasDigits, Stands, lastFour, mostText, rowText};
+ghost use Rattle.text.specs.Texts.{HasDigits, Stands, lastFour, rowText, DigitsFit, RowsFit, LineFits};
+ghost use Rattle.text.specs.Texts.{numberDigits, mostNumber, mostId, mostRefused, mostAsk, mostRow};
 use rules::Answer;
 use rules::Frame;
 use rules::Id;
+use rules::ROW_SIZE;
+
+// Where id and code stand in a row, behind its time.
+const ID: usize = 8;
+
+const CODE: usize = 8 + Id::SIZE;
 
 // How many decimal digits a number that is not 0 has: four for each division by 10000, and those of what is left.
 fn length_of(x: u64) -> usize
@@ -38,7 +46,7 @@ fn length_of(x: u64) -> usize
 
 // The n digits of a number, one to a division, from the last to the first.
 fn put_singly(out: &mut [u8], at: usize, n: usize, x: u64)
-    requires { ⌜ HasDigits n x × (at + n ≤ length (now out)) ⌝ }
+    requires { ⌜ DigitsFit n x at (now out) ⌝ }
     ensures { λ _. ⌜ now (out .exit) ≡ overAt at (decimal n x) (now (out .entry)) ⌝ }
 {
     let mut rest = x;
@@ -65,7 +73,7 @@ fn put_four(out: &mut [u8], at: usize, x: u64)
 
 // The n digits of a number, four to a division as long as more than four are left.
 fn put_digits(out: &mut [u8], at: usize, n: usize, x: u64)
-    requires { ⌜ HasDigits n x × (at + n ≤ length (now out)) ⌝ }
+    requires { ⌜ DigitsFit n x at (now out) ⌝ }
     ensures { λ _. ⌜ now (out .exit) ≡ overAt at (decimal n x) (now (out .entry)) ⌝ }
 {
     let mut rest = x;
@@ -80,7 +88,7 @@ fn put_digits(out: &mut [u8], at: usize, n: usize, x: u64)
 
 // A number in decimal digits, no zero in front.
 fn decimal(out: &mut [u8], at: usize, x: u64) -> usize
-    requires { ⌜ at + 20 ≤ length (now out) ⌝ }
+    requires { ⌜ at + numberDigits ≤ length (now out) ⌝ }
     ensures { λ r. ⌜ Stands (now (out .entry)) at (digits x) (now (out .exit)) r ⌝ }
 {
     if x < 10 {
@@ -94,12 +102,20 @@ fn decimal(out: &mut [u8], at: usize, x: u64) -> usize
 
 // A number and the byte behind it.
 fn number(out: &mut [u8], at: usize, x: u64, behind: u8) -> usize
-    requires { ⌜ at + 21 ≤ length (now out) ⌝ }
+    requires { ⌜ at + mostNumber ≤ length (now out) ⌝ }
     ensures { λ r. ⌜ Stands (now (out .entry)) at (digits x ++ (behind ∷ [])) (now (out .exit)) r ⌝ }
 {
     let end = decimal(out, at, x);
     out[end] = behind;
     end + 1
+}
+
+// An id and the byte behind it.
+fn id_text(out: &mut [u8], at: usize, id: Id, behind: u8) -> usize
+    requires { ⌜ at + mostId ≤ length (now out) ⌝ }
+    ensures { λ r. ⌜ Stands (now (out .entry)) at (digits (idNumber id) ++ (behind ∷ [])) (now (out .exit)) r ⌝ }
+{
+    number(out, at, id.number(), behind)
 }
 
 // A word, byte by byte.
@@ -117,7 +133,7 @@ pub(crate) fn word(out: &mut [u8], at: usize, w: &[u8]) -> usize
 
 // refused n
 pub(crate) fn refused(out: &mut [u8], at: usize, n: u8) -> usize
-    requires { ⌜ at + 29 ≤ length (now out) ⌝ }
+    requires { ⌜ at + mostRefused ≤ length (now out) ⌝ }
     ensures { λ r. ⌜ Stands (now (out .entry)) at (refusedText n) (now (out .exit)) r ⌝ }
 {
     let behind = word(out, at, b"refused ");
@@ -126,18 +142,18 @@ pub(crate) fn refused(out: &mut [u8], at: usize, n: u8) -> usize
 
 // Three numbers: a clock or a time, an id, a code.
 fn three(out: &mut [u8], at: usize, t: u64, id: Id, k: u8) -> usize
-    requires { ⌜ at + 63 ≤ length (now out) ⌝ }
-    ensures { λ r. ⌜ Stands (now (out .entry)) at (threeText t (id .value) k) (now (out .exit)) r ⌝ }
+    requires { ⌜ at + mostRow ≤ length (now out) ⌝ }
+    ensures { λ r. ⌜ Stands (now (out .entry)) at (threeText t (idNumber id) k) (now (out .exit)) r ⌝ }
 {
     let second = number(out, at, t, b' ');
-    let third = number(out, second, id.value, b' ');
+    let third = id_text(out, second, id, b' ');
     number(out, third, k as u64, b'\n')
 }
 
 // A call that names an id and gives a code; nothing for code 0.
 fn code_text(out: &mut [u8], at: usize, clock: u64, id: Id, answer: Answer) -> usize
-    requires { ⌜ at + 63 ≤ length (now out) ⌝ }
-    ensures { λ r. ⌜ Stands (now (out .entry)) at (codeText clock (id .value) (valueOf answer)) (now (out .exit)) r ⌝ }
+    requires { ⌜ at + mostRow ≤ length (now out) ⌝ }
+    ensures { λ r. ⌜ Stands (now (out .entry)) at (codeText clock (idNumber id) (valueOf answer)) (now (out .exit)) r ⌝ }
 {
     match answer {
         Answer::Code(k) => {
@@ -152,7 +168,7 @@ fn code_text(out: &mut [u8], at: usize, clock: u64, id: Id, answer: Answer) -> u
 
 // A control and a word.
 fn control_text(out: &mut [u8], at: usize, control: u8, w: &[u8]) -> usize
-    requires { ⌜ at + (21 + length (now w)) ≤ length (now out) ⌝ }
+    requires { ⌜ at + (mostNumber + length (now w)) ≤ length (now out) ⌝ }
     ensures { λ r. ⌜ Stands (now (out .entry)) at (digits control ++ (space ++ now (w .entry))) (now (out .exit)) r ⌝ }
 {
     let behind = number(out, at, control as u64, b' ');
@@ -161,13 +177,13 @@ fn control_text(out: &mut [u8], at: usize, control: u8, w: &[u8]) -> usize
 
 // A question: control event id, control default program, or control none.
 fn ask_text(out: &mut [u8], at: usize, control: u8, answer: Answer) -> usize
-    requires { ⌜ at + 50 ≤ length (now out) ⌝ }
+    requires { ⌜ at + mostAsk ≤ length (now out) ⌝ }
     ensures { λ r. ⌜ Stands (now (out .entry)) at (askText control (valueOf answer)) (now (out .exit)) r ⌝ }
 {
     match answer {
         Answer::Holder(id) => {
             let behind = control_text(out, at, control, b"event ");
-            number(out, behind, id.value, b'\n')
+            id_text(out, behind, id, b'\n')
         }
         Answer::Default(program) => {
             let behind = control_text(out, at, control, b"default ");
@@ -180,25 +196,23 @@ fn ask_text(out: &mut [u8], at: usize, control: u8, answer: Answer) -> usize
 
 // The row that stands in the buffer at `from`.
 fn row_text(out: &mut [u8], at: usize, rows: &[u8], from: usize) -> usize
-    requires { ⌜ (from + 17 ≤ length (now rows)) × (at + 63 ≤ length (now out)) ⌝ }
+    requires { ⌜ RowsFit from 1 (now rows) at (now out) ⌝ }
     ensures { λ r. ⌜ Stands (now (out .entry)) at (rowText from (now (rows .entry))) (now (out .exit)) r ⌝ }
 {
     let time = octets::get(rows, from, 8);
-    let id = Id {
-        value: octets::get(rows, from + 8, 8),
-    };
-    three(out, at, time, id, rows[from + 16])
+    let id = octets::get_id(rows, from + ID);
+    three(out, at, time, id, rows[from + CODE])
 }
 
 // The rows in a buffer.
 fn rows_text(out: &mut [u8], at: usize, rows: &[u8], count: usize) -> usize
-    requires { ⌜ (17 * count ≤ length (now rows)) × (at + 63 * count ≤ length (now out)) ⌝ }
+    requires { ⌜ RowsFit 0 count (now rows) at (now out) ⌝ }
     ensures { λ r. ⌜ Stands (now (out .entry)) at (rowsText count 0 (now (rows .entry))) (now (out .exit)) r ⌝ }
 {
     let mut behind = at;
     let mut i = 0;
     while i < count {
-        behind = row_text(out, behind, rows, 17 * i);
+        behind = row_text(out, behind, rows, ROW_SIZE * i);
         i += 1;
     }
     behind
@@ -213,7 +227,7 @@ pub(crate) fn told(
     answer: Answer,
     rows: &[u8],
 ) -> usize
-    requires { ⌜ (at + mostText ≤ length (now out)) × (length (now rows) ≡ 1632) × (counted (valueOf answer) ≤ 96) ⌝ }
+    requires { ⌜ LineFits at (now out) (now rows) (counted (valueOf answer)) ⌝ }
     ensures { λ r. ⌜ ((o : Outcome) → o .number ≡ numberOf answer → o .value ≡ valueOf answer → o .bytes ≡ now (rows .entry)
         → Stands (now (out .entry)) at (cond (eqb (o .number) 0) (frameText clock f o) (refusedText (o .number))) (now (out .exit)) r) ⌝ }
 {

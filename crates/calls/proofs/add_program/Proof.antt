@@ -15,28 +15,38 @@ use Rattle.calls.proofs.add_program.Tie as tie
 
 returns : tie.Need-returns
 returns c =
-    let a = c .before .before .args in
-    broken (a .s) (sym (c .before .is-sound .ensures) ∙ not-true (c .before .is-sound .result) (c .if1 .taken)) (addProgram (a .number) (a .primacy) (a .defaults))
+    let test = c .before .before in
+    let a = test .before .args in
+    rw (c .refused .ensures)
+    (broken (a .s) (sym (test .is-sound .ensures) ∙ not-true (test .is-sound .result) (c .before .if1 .taken)) (addProgram (a .number) (a .primacy) (a .defaults)))
 
 good : (c : tie.Else1) → sound (c .before .before .args .s) ≡ true
 good c = sym (c .before .is-sound .ensures) ∙ not-false (c .before .is-sound .result) (c .if1 .left)
 
 -- no slot was looked at, so what the call promises of any slots it promises of these
-acts : (c : tie.After-add-program) → let a = c .before .before .before .before .before .before .args in let w = c .before .before .take-apart .last .1 .0 in
-    Acts (c .add-program .result) w [] (call (scheduleOf (c .before .head-of .result) w) (addProgram (a .number) (a .primacy) (a .defaults)))
+acts : (c : tie.After-add-program) → let head = c .before in let w = head .before .take-apart .last .1 .0 in
+    let else = head .before .before .before in let a = else .before .before .args in
+    Acts (c .add-program .result) w [] (call (scheduleOf (head .head-of .result) w) (addProgram (a .number) (a .primacy) (a .defaults)))
 acts c =
-    let else = c .before .before .before .before in
-    c .add-program .ensures _ (ready (else .before .before .args .s) (c .before .head-of .result) _ (c .before .head-of .ensures) (c .before .before .take-apart .ensures) (good else))
+    let head = c .before in
+    let apart = head .before in
+    c .add-program .ensures _ (ready (head .head-of .ensures) (apart .take-apart .ensures) (good (apart .before .before)))
 
 returns-2 : tie.Need-returns-2
 returns-2 c =
-    let a = c .before .before .before .before .before .before .before .before .args in
-    let head = c .before .before .before .head-of in
-    let apart = c .before .before .before .before .take-apart in
-    let call = c .before .before .add-program in
-    returned (a .s) (head .result) _ (head .ensures) (apart .ensures) (addProgram (a .number) (a .primacy) (a .defaults)) _ (call .result) _ (acts (c .before .before)) (c .by-value .result) (c .by-value .ensures)
+    let called = c .before .before in
+    let head = called .before in
+    returned (head .head-of .ensures) (head .before .take-apart .ensures) _ (acts called) (c .by-value .ensures)
 
 pub add-program-spec : {M : Type 1} → statement M
 add-program-spec =
     tie.close
-    (tie.spec (λ c κs. search needs) returns (λ c κs. (good (c .before), refl)) (λ c κs. search needs) (λ c κs. search needs) (λ c κs. (acts (c .before) .size, acts (c .before) .count)) returns-2)
+    (tie.spec
+    (λ c κs. search needs)
+    (λ c κs. search needs)
+    returns
+    (λ c κs. record { good = good (c .before); size = refl })
+    (λ c κs. search needs)
+    (λ c κs. search needs)
+    (λ c κs. acts (c .before) .used)
+    returns-2)

@@ -12,26 +12,33 @@ use Rattle.calls.proofs.deliver.Tie as tie
 
 returns : tie.Need-returns
 returns c =
-    let a = c .before .before .args in
-    broken (a .s) (sym (c .before .is-sound .ensures) ∙ not-true (c .before .is-sound .result) (c .if1 .taken)) (deliver (a .e))
+    let test = c .before .before in
+    let a = test .before .args in
+    rw (c .refused .ensures) (broken (a .s) (sym (test .is-sound .ensures) ∙ not-true (test .is-sound .result) (c .before .if1 .taken)) (deliver (a .e)))
 
 good : (c : tie.Else1) → sound (c .before .before .args .s) ≡ true
 good c = sym (c .before .is-sound .ensures) ∙ not-false (c .before .is-sound .result) (c .if1 .left)
 
 deliver-requires : tie.Need-deliver-requires
 deliver-requires c κs =
-    let else = c .before .before .before .before in
-    ready (else .before .before .args .s) (c .before .head-of .result) _ (c .before .head-of .ensures) (c .before .before .take-apart .ensures) (good else)
+    let head = c .before in
+    ready (head .head-of .ensures) (head .before .take-apart .ensures) (good (head .before .before .before))
 
 returns-2 : tie.Need-returns-2
 returns-2 c =
-    let a = c .before .before .before .before .before .before .before .before .before .args in
-    let head = c .before .before .before .before .head-of in
-    let apart = c .before .before .before .before .before .take-apart in
-    let call = c .before .before .deliver in
-    returned (a .s) (head .result) _ (head .ensures) (apart .ensures) (deliver (a .e)) _ (call .result) _ (call .ensures) (c .by-value .result) (c .by-value .ensures)
+    let called = c .before .before in
+    let head = called .before .before in
+    returned (head .head-of .ensures) (head .before .take-apart .ensures) _ (called .deliver .ensures) (c .by-value .ensures)
 
 pub deliver-spec : {M : Type 1} → statement M
 deliver-spec =
     tie.close
-    (tie.spec (λ c κs. search needs) returns (λ c κs. (good (c .before), refl)) (λ c κs. search needs) deliver-requires (λ c κs. (c .before .deliver .ensures .size, c .before .deliver .ensures .count)) returns-2)
+    (tie.spec
+    (λ c κs. search needs)
+    (λ c κs. search needs)
+    returns
+    (λ c κs. record { good = good (c .before); size = refl })
+    (λ c κs. search needs)
+    deliver-requires
+    (λ c κs. c .before .deliver .ensures .used)
+    returns-2)

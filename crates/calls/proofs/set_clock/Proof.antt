@@ -11,8 +11,9 @@ set-clock-requires c κs = sym (c .before .before .is-sound .ensures) ∙ c .bef
 
 returns-2 : tie.Need-returns-2
 returns-2 c =
-    let a = c .before .before .before .args in
-    broken (a .s) (sym (c .before .is-sound .ensures) ∙ c .if1 .left) (setClock (a .reading) (a .buffer .now))
+    let test = c .before .before in
+    let a = test .before .before .args in
+    rw (c .refused .ensures) (broken (a .s) (sym (test .is-sound .ensures) ∙ c .before .if1 .left) (setClock (a .reading) (a .buffer .now)))
 
 pub set-clock-spec : {M : Type 1} → statement M
-set-clock-spec = tie.close (tie.spec (λ c κs. search needs) set-clock-requires (λ c. search needs) (λ c. search needs) returns-2)
+set-clock-spec = tie.close (tie.spec (λ c κs. search needs) set-clock-requires (λ c. search needs) (λ c. search needs) (λ c κs. search needs) returns-2)

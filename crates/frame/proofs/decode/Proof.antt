@@ -20,13 +20,16 @@ returns c =
 read-pairs-requires : tie.Need-read-pairs-requires
 read-pairs-requires c κs =
     let s = c .before .before in
-    (omega (arith, size-bound (s .before .first .result), s .size-of .ensures), c .before .if1 .left, refl)
+    record { few = omega (arith, size-bound (s .before .first .result), s .size-of .ensures); pairs = c .before .if1 .left; places = refl }
 
 returns-2 : tie.Need-returns-2
 unfolding lineOf
 returns-2 c =
     let p = c .before .read-pairs in
     rw (← p .ensures .digits, not-true (p .result) (c .if2 .taken))
+
+frame-as-requires : tie.Need-frame-as-requires
+frame-as-requires c κs = c .before .before .read-pairs .ensures .size
 
 returns-3 : tie.Need-returns-3
 returns-3 c =
@@ -49,5 +52,6 @@ decode-spec =
     returns
     read-pairs-requires
     returns-2
-    (λ c κs. search needs)
+    (λ c. search needs)
+    frame-as-requires
     returns-3)

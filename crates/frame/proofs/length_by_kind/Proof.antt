@@ -1,4 +1,4 @@
--- The size of the first pair's kind, which is at most 34, doubled.
+-- The size of the first pair's kind, which is at most an event's, doubled.
 use mathlib.Core.Path.{ap}
 use native.Mathlib.Omega.{arith}
 use borrow.Author.Needs.{needs}

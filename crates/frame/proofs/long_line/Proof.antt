@@ -1,4 +1,4 @@
--- No kind asks for more than 34 pairs.
+-- No kind asks for more pairs than an event.
 use Rattle.frame.proofs.ByKind.{long-line}
 use Rattle.frame.proofs.long_line.Statement.{statement}
 use Rattle.frame.proofs.long_line.Tie as tie

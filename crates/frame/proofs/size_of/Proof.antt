@@ -1,6 +1,5 @@
 -- The numbers of the match are those of the definition.
-use native.Mathlib.Omega.{arith}
-use borrow.Author.Tests.{ne-eqb, lt-leb, le-leb}
+use borrow.Author.Tests.{ne-eqb}
 use Rattle.frame.specs.Decoded.{sizeOf}
 use Rattle.frame.proofs.size_of.Statement.{statement}
 use Rattle.frame.proofs.size_of.Tie as tie
@@ -19,23 +18,18 @@ returns-3 c = rw (c .match .keys3)
 
 returns-4 : tie.Need-returns-4
 unfolding sizeOf
-returns-4 c =
-    let k = c .before .before .before .args .kind in
-    simp (ne-eqb k 1 (c .before .before .match .rest .0 .0 .1), le-leb 2 k (omega arith), le-leb k 3 (omega arith))
+returns-4 c = rw (c .match .keys4)
 
 returns-5 : tie.Need-returns-5
 unfolding sizeOf
-returns-5 c =
-    let k = c .before .before .args .kind in
-    let r = c .before .match .rest in
-    simp (ne-eqb k 1 (r .0 .0 .1), lt-leb 2 k (omega arith), ne-eqb k 4 (r .0 .1), ne-eqb k 5 (r .1))
+returns-5 c = rw (c .match .keys5)
 
 returns-6 : tie.Need-returns-6
 unfolding sizeOf
 returns-6 c =
-    let k = c .before .before .before .args .kind in
-    let r = c .before .before .match .rest in
-    simp (ne-eqb k 1 (r .0 .0 .1), le-leb 2 k (omega arith), lt-leb k 3 (omega arith), ne-eqb k 4 (r .0 .1), ne-eqb k 5 (r .1))
+    let k = c .before .args .kind in
+    let r = c .match .rest in
+    simp (ne-eqb k 1 (r .0 .0 .0 .0 .1), ne-eqb k 2 (r .0 .0 .0 .1), ne-eqb k 3 (r .0 .0 .1), ne-eqb k 4 (r .0 .1), ne-eqb k 5 (r .1))
 
 pub size-of-spec : {M : Type 1} → statement M
 size-of-spec = tie.close (tie.spec returns returns-2 returns-3 returns-4 returns-5 returns-6)

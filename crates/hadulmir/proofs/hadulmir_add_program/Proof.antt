@@ -17,7 +17,7 @@ finish-requires c κs =
 returns-2 : tie.Need-returns-2
 returns-2 c =
     let d = c .before .before .before .before in
-    stored-alone _ (d .before .before .before .before .read .ensures) (d .before .before .if1 .left) (d .add-program .result) _ (d .add-program .ensures) (λ v. refl) refl refl
+    stored-alone _ (d .before .before .before .before .read .ensures) (d .before .before .if1 .left) (d .add-program .result) _ (d .add-program .ensures) refl
     (c .before .before .finish .ensures)
 
 pub hadulmir-add-program-spec : {M : Type 1} → statement M

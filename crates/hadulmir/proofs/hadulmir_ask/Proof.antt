@@ -8,20 +8,26 @@ use Rattle.hadulmir.proofs.hadulmir_ask.Statement.{statement}
 use Rattle.hadulmir.proofs.hadulmir_ask.Tie as tie
 
 -- what is known once the question was asked: the bytes are formed, and each is a byte
-known : (d : tie.After-ask) → Formed (d .before .before .before .before .before .before .before .args .image .now) (d .before .before .before .before .read .result)
-known d = formed-as _ (d .before .before .before .before .read .ensures) (d .before .before .if1 .left)
+abbrev read-of : tie.After-ask → tie.After-read
+read-of d = d .before .before .before .before
 
-are-bytes : (d : tie.After-ask) → Bytes (d .before .before .before .before .before .before .before .args .image .now)
-are-bytes d i = omega (arith, d .before .before .before .before .before .before .shared-slice-known .given i)
+abbrev start : tie.After-read → tie.Start
+start r = r .before .before .before
+
+known : (d : tie.After-ask) → Formed (start (read-of d) .args .image .now) (read-of d .read .result)
+known d = formed-as _ (read-of d .read .ensures) (d .before .before .if1 .left)
+
+are-bytes : (d : tie.After-ask) → Bytes (start (read-of d) .args .image .now)
+are-bytes d i = omega (arith, read-of d .before .before .shared-slice-known .given i)
 
 returns : tie.Need-returns
 returns c =
     let r = c .before .before .before in
-    let a = r .before .before .before .args in
+    let a = start r .args in
     unread (a .image .now) (r .read .ensures) (c .before .if1 .taken) _ (a .id .now) (c .negative .ensures)
 
 returned-requires : tie.Need-returned-requires
-returned-requires c κs = let d = c .before in small (known d) (d .ask .result) _ (d .ask .ensures) .0
+returned-requires c κs = let d = c .before in small (known d) (d .ask .result) _ (d .ask .ensures) .few
 
 returns-2 : tie.Need-returns-2
 returns-2 c =
@@ -39,7 +45,7 @@ returns-4 c =
     let p = c .before .before in
     let h = p .before .before .before .before in
     let d = h .before .before in
-    asked-holder (known d) _ _ (d .ask .result) (d .ask .ensures) (h .answer .given .1) (are-bytes d) (p .before .before .if2 .left) (p .put .ensures)
+    asked-holder (known d) _ _ (d .ask .result) (d .ask .ensures) (h .answer .given .1) (are-bytes d) (p .before .before .if2 .left) (p .put-id .ensures)
 
 pub hadulmir-ask-spec : {M : Type 1} → statement M
 hadulmir-ask-spec =

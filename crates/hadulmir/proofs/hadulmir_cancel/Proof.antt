@@ -1,7 +1,9 @@
 -- Loaded, cancelled, stored.
 use mathlib.Core.Path.{refl}
 use mathlib.Core.List.{[]}
+use native.Mathlib.Omega.{arith}
 use borrow.Author.Needs.{needs}
+use Rattle.rules.proofs.IdLaws.{number-id}
 use Rattle.hadulmir.proofs.Facing.{unread, may-store, stored-alone}
 use Rattle.hadulmir.proofs.hadulmir_cancel.Statement.{statement}
 use Rattle.hadulmir.proofs.hadulmir_cancel.Tie as tie
@@ -12,12 +14,17 @@ returns c = let r = c .before .before .before in unread _ (r .read .ensures) (c 
 finish-requires : tie.Need-finish-requires
 finish-requires c κs =
     let d = c .before in
-    may-store _ (d .before .before .before .before .read .ensures) (d .before .before .if1 .left) (d .cancel .result) _ (d .cancel .ensures)
+    let formed = d .before .before .before in
+    may-store _ (formed .before .before .read .ensures) (formed .if1 .left) (d .cancel .result) _ (d .cancel .ensures)
 
 returns-2 : tie.Need-returns-2
 returns-2 c =
     let d = c .before .before .before .before in
-    stored-alone _ (d .before .before .before .before .read .ensures) (d .before .before .if1 .left) (d .cancel .result) _ (d .cancel .ensures) (λ v. refl) refl refl
+    let formed = d .before .before .before in
+    let loaded = formed .before .before in
+    let start = loaded .before .before .before in
+    let id = number-id (start .args .id) (omega (arith, start)) in
+    stored-alone _ (loaded .read .ensures) (formed .if1 .left) (d .cancel .result) _ (rw (d .before .of .ensures, id) at (d .cancel .ensures)) refl
     (c .before .before .finish .ensures)
 
 pub hadulmir-cancel-spec : {M : Type 1} → statement M
@@ -28,6 +35,7 @@ hadulmir-cancel-spec =
     (λ c κs. search needs)
     (λ c. search needs)
     returns
+    (λ c κs. search needs)
     (λ c κs. search needs)
     finish-requires
     (λ c. search needs)

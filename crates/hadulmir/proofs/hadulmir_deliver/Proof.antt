@@ -12,12 +12,14 @@ returns c = let r = c .before .before .before in unread _ (r .read .ensures) (c 
 finish-requires : tie.Need-finish-requires
 finish-requires c κs =
     let d = c .before in
-    may-store _ (d .before .before .before .before .read .ensures) (d .before .before .if1 .left) (d .deliver .result) _ (d .deliver .ensures)
+    let formed = d .before .before .before in
+    may-store _ (formed .before .before .read .ensures) (formed .if1 .left) (d .deliver .result) _ (d .deliver .ensures)
 
 returns-2 : tie.Need-returns-2
 returns-2 c =
     let d = c .before .before .before .before in
-    stored-alone _ (d .before .before .before .before .read .ensures) (d .before .before .if1 .left) (d .deliver .result) _ (d .deliver .ensures) (λ v. refl) refl refl
+    let formed = d .before .before .before in
+    stored-alone _ (formed .before .before .read .ensures) (formed .if1 .left) (d .deliver .result) _ (rw (d .before .of .ensures) at (d .deliver .ensures)) refl
     (c .before .before .finish .ensures)
 
 pub hadulmir-deliver-spec : {M : Type 1} → statement M
@@ -28,6 +30,7 @@ hadulmir-deliver-spec =
     (λ c κs. search needs)
     (λ c. search needs)
     returns
+    (λ c κs. search needs)
     (λ c κs. search needs)
     finish-requires
     (λ c. search needs)

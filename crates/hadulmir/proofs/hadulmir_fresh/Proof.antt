@@ -12,7 +12,7 @@ returns c =
     let w = c .before .before .before in
     let f = w .before .before in
     let p = written-as (f .fresh .result) (f .before .before .args .image .now) (w .write .ensures) in
-    rw (sym (p .0) ∙ c .if1 .taken, p .1, c .if1 .taken, f .fresh .ensures)
+    rw (sym (p .fits) ∙ c .if1 .taken, p .leaves, c .if1 .taken, f .fresh .ensures)
 
 returns-2 : tie.Need-returns-2
 unfolding faceFresh
@@ -20,7 +20,7 @@ returns-2 c =
     let w = c .before .before .before .before in
     let f = w .before .before in
     let p = written-as (f .fresh .result) (f .before .before .args .image .now) (w .write .ensures) in
-    rw (sym (p .0) ∙ c .before .if1 .left, p .1, c .before .if1 .left, c .negative .ensures)
+    rw (sym (p .fits) ∙ c .before .if1 .left, p .leaves, c .before .if1 .left, c .negative .ensures)
 
 pub hadulmir-fresh-spec : {M : Type 1} → statement M
 hadulmir-fresh-spec =

@@ -8,6 +8,8 @@ use borrow.Author.Tests.{not-true, not-false}
 use lib.ListN.{length, drop, length-take, length-drop}
 use lib.Seq.{take-take}
 use Rattle.rules.specs.Lists.{over}
+use Rattle.rules.specs.Bytes.{entrySize}
+use Rattle.rules.specs.Image.{entriesAt}
 use Rattle.rules.specs.Sound.{sound}
 use Rattle.rules.proofs.SoundState.{rules}
 use Rattle.octets.proofs.Fits.{copy-inside}
@@ -17,17 +19,23 @@ use Rattle.hadulmir.proofs.hadulmir_list.Statement.{statement}
 use Rattle.hadulmir.proofs.hadulmir_list.Tie as tie
 
 -- what is known once the rules were looked at
-known : (d : tie.After-is-sound) → Formed (d .before .before .before .before .before .before .before .args .image .now) (d .before .before .before .before .read .result)
-known d = formed-as _ (d .before .before .before .before .read .ensures) (d .before .before .if1 .left)
+abbrev read-of : tie.After-is-sound → tie.After-read
+read-of d = d .before .before .before .before
+
+abbrev start : tie.After-read → tie.Start
+start r = r .before .before .before
+
+known : (d : tie.After-is-sound) → Formed (start (read-of d) .args .image .now) (read-of d .read .result)
+known d = formed-as _ (read-of d .read .ensures) (d .before .before .if1 .left)
 
 -- and kept
-kept : (d : tie.Else2) → sound (d .before .before .before .before .before .read .result .schedule) ≡ true
+kept : (d : tie.Else2) → sound (read-of (d .before) .read .result .schedule) ≡ true
 kept d = sym (d .before .is-sound .ensures) ∙ not-false _ (d .if2 .left)
 
 returns : tie.Need-returns
 returns c =
     let r = c .before .before .before in
-    let a = r .before .before .before .args in
+    let a = start r .args in
     unread (a .image .now) (r .read .ensures) (c .before .if1 .taken) _ (a .records .now) (c .negative .ensures)
 
 returns-2 : tie.Need-returns-2
@@ -47,18 +55,25 @@ part-copy-start : tie.Need-part-copy-start
 part-copy-start c = omega (arith, known (c .before .before .before) .size)
 
 cast-result : tie.Need-cast-result
-cast-result c = omega (arith, rules _ (kept (c .before .before .before .before .before .before)) .count)
+cast-result c =
+    let copied = c .before .before in
+    let room = copied .before .before .before in
+    omega (arith, rules _ (kept (room .before)) .count)
 
 returns-4 : tie.Need-returns-4
 returns-4 c =
-    let d = c .before .before .before .before .before .before in
-    let r = d .before .before .before .before .before in
-    let a = r .before .before .before .args in
+    let copied = c .before .before in
+    let room = copied .before .before .before in
+    let d = room .before in
+    let r = read-of (d .before) in
+    let a = start r .args in
+    let bytes = entrySize * r .read .result .schedule .count in
     let few = rules _ (kept d) .count in
     let size = known (d .before) .size in
-    let part = take-take (46 * r .read .result .schedule .count) (length (a .image .now) - 57) (drop 57 (a .image .now)) (omega arith) in
-    listed-all (known (d .before)) (a .records .now) (kept d) (λ i. omega (arith, r .before .before .shared-slice-known .given i)) (c .before .before .before .before .before .if3 .left)
-    (c .before .before .copy .ensures ∙ copy-inside (46 * r .read .result .schedule .count) _ (a .records .now) (simp (length-take, length-drop) (omega arith)) (omega (arith, c .before .before .before .before .before .if3 .left)) ∙ ap (λ x. over x (a .records .now)) part)
+    let part = take-take bytes (length (a .image .now) - entriesAt) (drop entriesAt (a .image .now)) (omega arith) in
+    listed-all (known (d .before)) (a .records .now) (kept d) (λ i. omega (arith, r .before .before .shared-slice-known .given i)) (room .if3 .left)
+    (copied .copy .ensures ∙ copy-inside bytes _ (a .records .now) (simp (length-take, length-drop) (omega arith)) (omega (arith, room .if3 .left))
+    ∙ ap (λ x. over x (a .records .now)) part)
 
 pub hadulmir-list-spec : {M : Type 1} → statement M
 hadulmir-list-spec =

@@ -14,17 +14,20 @@ returns c =
 finish-requires : tie.Need-finish-requires
 finish-requires c κs =
     let d = c .before .before .before in
-    let r = d .before .before .before .before .before in
+    let formed = d .before .before .before in
+    let r = formed .before .before in
     let a = r .before .before .before .before .args in
-    small (formed-as (a .image .now) (r .read .ensures) (d .before .before .before .if1 .left)) (d .set-clock .result) _ (d .set-clock .ensures)
+    small (formed-as (a .image .now) (r .read .ensures) (formed .if1 .left)) (d .set-clock .result) _ (d .set-clock .ensures)
 
 returns-2 : tie.Need-returns-2
 returns-2 c =
-    let d = c .before .before .before .before .before .before in
-    let r = d .before .before .before .before .before in
+    let finished = c .before .before in
+    let d = finished .before .before .before .before in
+    let formed = d .before .before .before in
+    let r = formed .before .before in
     let a = r .before .before .before .before .args in
-    let f = formed-as (a .image .now) (r .read .ensures) (d .before .before .before .if1 .left) in
-    stored f _ (a .rows .now) (d .set-clock .result) (d .set-clock .ensures) (λ v. refl) refl refl (c .before .before .finish .ensures)
+    let f = formed-as (a .image .now) (r .read .ensures) (formed .if1 .left) in
+    stored f _ (a .rows .now) (d .set-clock .result) (d .set-clock .ensures) refl refl refl (finished .finish .ensures)
 
 pub hadulmir-set-clock-spec : {M : Type 1} → statement M
 hadulmir-set-clock-spec =

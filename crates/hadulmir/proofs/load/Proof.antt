@@ -15,15 +15,17 @@ returns c =
 returns-2 : tie.Need-returns-2
 unfolding loadOutcome
 returns-2 c =
-    let r = c .before .before .before .before .before in
-    let f = formed-as (r .before .before .args .b .now) (r .read .ensures) (c .before .before .if1 .left) in
+    let formed = c .before .before in
+    let r = formed .before .before .before in
+    let f = formed-as (r .before .before .args .b .now) (r .read .ensures) (formed .if1 .left) in
     rw (is-imaged f (c .before .is-sound .ensures), c .if2 .taken, f .schedule)
 
 returns-3 : tie.Need-returns-3
 unfolding loadOutcome
 returns-3 c =
-    let r = c .before .before .before .before .before .before in
-    let f = formed-as (r .before .before .args .b .now) (r .read .ensures) (c .before .before .before .if1 .left) in
+    let formed = c .before .before .before in
+    let r = formed .before .before .before in
+    let f = formed-as (r .before .before .args .b .now) (r .read .ensures) (formed .if1 .left) in
     rw (is-imaged f (c .before .before .is-sound .ensures), c .before .if2 .left, c .fresh .ensures)
 
 pub load-spec : {M : Type 1} → statement M

@@ -10,17 +10,19 @@ returns : tie.Need-returns
 unfolding storeOutcome
 returns c =
     let w = c .before .before .before in
-    let a = w .before .before .before .before .before .args in
+    let sound = w .before .before in
+    let a = sound .before .before .before .args in
     let p = written-as (a .s) (a .out .now) (w .write .ensures) in
-    rw (sym (w .before .before .before .is-sound .ensures) ∙ w .before .before .if1 .taken, sym (p .0) ∙ c .if2 .taken, p .1, c .if2 .taken)
+    rw (sym (sound .before .is-sound .ensures) ∙ sound .if1 .taken, sym (p .fits) ∙ c .if2 .taken, p .leaves, c .if2 .taken)
 
 returns-2 : tie.Need-returns-2
 unfolding storeOutcome
 returns-2 c =
     let w = c .before .before .before in
-    let a = w .before .before .before .before .before .args in
+    let sound = w .before .before in
+    let a = sound .before .before .before .args in
     let p = written-as (a .s) (a .out .now) (w .write .ensures) in
-    rw (sym (w .before .before .before .is-sound .ensures) ∙ w .before .before .if1 .taken, sym (p .0) ∙ c .if2 .left, p .1, c .if2 .left)
+    rw (sym (sound .before .is-sound .ensures) ∙ sound .if1 .taken, sym (p .fits) ∙ c .if2 .left, p .leaves, c .if2 .left)
 
 returns-3 : tie.Need-returns-3
 unfolding storeOutcome

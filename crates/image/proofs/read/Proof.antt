@@ -1,18 +1,19 @@
 -- The tests are those of `formed`, in its order.
 use mathlib.Core.Path.{_≡_, sym, _∙_}
-use Prim.Native.Nat.{ℕ}
+use Prim.Native.Nat.{ℕ, _+_}
 use mathlib.Core.Bool.{true, and-false}
 use mathlib.Core.List.{List}
 use borrow.Author.Needs.{needs}
 use borrow.Author.Tests.{eq-eqb, ne-eqb, not-true, not-false}
 use lib.ListN.{length}
-use Rattle.rules.specs.Records.{mostEvents}
-use Rattle.rules.specs.Image.{entrySize, imageSize, marked, formed}
+use Rattle.rules.specs.Records.{mostPrograms, mostEvents}
+use Rattle.rules.specs.Bytes.{entrySize, markAt}
+use Rattle.rules.specs.Image.{programSize, programsAt, entriesAt, imageSize, marked, formed}
 use Rattle.image.specs.Exchange.{readOf}
 use Rattle.image.proofs.read.Statement.{statement}
 use Rattle.image.proofs.read.Tie as tie
 
-formed-if : (l : List ℕ) → length l ≡ imageSize → marked 6 8 9 l ≡ true → marked entrySize mostEvents 102 l ≡ true → formed l ≡ true
+formed-if : (l : List ℕ) → length l ≡ imageSize → marked programSize mostPrograms programsAt l ≡ true → marked entrySize mostEvents (entriesAt + markAt) l ≡ true → formed l ≡ true
 unfolding formed
 formed-if l n p e = rw (eq-eqb _ _ n, p, e)
 
@@ -35,11 +36,14 @@ returns-3 c =
 returns-4 : tie.Need-returns-4
 unfolding readOf
 returns-4 c =
-    let m = c .before .before .is-marked2 in
-    let p = c .before .before .before .before .is-marked in
-    let q = not-false (p .result) (c .before .before .before .if2 .left) in
-    let n = not-false (m .result) (c .before .if3 .left) in
-    rw (formed-if _ (c .before .before .before .before .before .if1 .left) (sym (p .ensures) ∙ q) (sym (m .ensures) ∙ n), c .schedule .ensures)
+    let marked = c .before in
+    let programs = marked .before .before in
+    let sized = programs .before .before in
+    let m = marked .before .is-marked2 in
+    let p = programs .before .is-marked in
+    let q = not-false (p .result) (programs .if2 .left) in
+    let n = not-false (m .result) (marked .if3 .left) in
+    rw (formed-if _ (sized .if1 .left) (sym (p .ensures) ∙ q) (sym (m .ensures) ∙ n), c .schedule .ensures)
 
 pub read-spec : {M : Type 1} → statement M
 read-spec =

@@ -13,14 +13,15 @@ returns c = simp (ne-eqb _ _ (c .if1 .taken))
 
 returns-2 : tie.Need-returns-2
 returns-2 c =
-    let p₄ = c .before .before in
-    let p₃ = p₄ .before .before .before .before .before in
-    let p₂ = p₃ .before .before .before .before .before in
-    let p₁ = p₂ .before .before .before .before in
-    let t = p₁ .before .before in
-    let start = t .before .before in
+    let entries = c .before .before in
+    let programs = entries .before .before .before .before in
+    let count = programs .before .before .before .before in
+    let clock = count .before .before .before .before in
+    let sized = clock .before .before .before .before in
+    let start = sized .before .before in
     let s = start .args .s in
-    written s (lengths s _ (start .good .0)) (start .args .out .now) (t .if1 .left) (p₁ .put .ensures) (p₂ .put2 .ensures) (p₃ .put-programs .ensures) (p₄ .put-entries .ensures)
+    written s (lengths s _ (start .good .0)) (start .args .out .now) (sized .if1 .left) (clock .put8 .ensures) (count .put .ensures) (programs .put-programs .ensures)
+    (entries .put-entries .ensures)
 
 pub write-spec : {M : Type 1} → statement M
 write-spec =

@@ -62,14 +62,14 @@ use Rattle.rules.proofs.Schedule.Laws as Sch′
 use Rattle.rules.proofs.Record as Rec
 use Rattle.rules.proofs.Record.Laws as Rec′
 use Rattle.calls.specs.declared.Answered.{Answered}
-use Rattle.listing.specs.declared.records.Written.{Written}
+use Rattle.listing.specs.declared.records.Gathered.{Gathered}
 use Rattle.calls.specs.Answered.{outcomeOf}
 use Rattle.listing.specs.Listed.{Lists}
 use Rattle.rules.proofs.Copying.{copied-more, copied-all, copied-length, over-length}
 use Rattle.calls.proofs.Answered as Ans
 use Rattle.calls.proofs.Answered.Laws as Ans′
-use Rattle.listing.proofs.records.Written as Wr
-use Rattle.listing.proofs.records.Written.Laws as Wr′
+use Rattle.listing.proofs.records.Gathered as Ga
+use Rattle.listing.proofs.records.Gathered.Laws as Ga′
 use Rattle.listing.proofs.records.listing as listing
 use Rattle.listing.proofs.records.listing.Symbol as listing-def
 use Rattle.listing.proofs.records.listing.Symbol.{name as #listing}
@@ -86,21 +86,21 @@ R = Rec.the-row
 abbrev stayed : Stays (list′.ended .signature .params) (list′.ended .kept)
 stayed = (stay-none (λ _. Sch.the-row) yes, (stay-slice (0 ∷ []) tt (plain (λ _. R)), tt))
 
--- the array as `Written` holds it, the machine values of a `Written`'s array and answer, and the relations of its fields
+-- the array as `Gathered` holds it, the machine values of a `Gathered`'s array and answer, and the relations of its fields
 abbrev S48 : RattleType
 S48 = Array (Struct (D.shape Rec.the-type)) 48
 
-abbrev tuples : Written → List (Struct (D.shape Rec.the-type) .Denot)
+abbrev tuples : Gathered → List (Struct (D.shape Rec.the-type) .Denot)
 tuples r = map (Rec.the-type .to) (r .records)
 
-abbrev arrayOf : Written → Val
-arrayOf r = Wr′.the-laws .1 .0 .val (tuples r)
+abbrev arrayOf : Gathered → Val
+arrayOf r = Ga′.the-laws .1 .0 .val (tuples r)
 
-abbrev answeredOf : Written → Val
+abbrev answeredOf : Gathered → Val
 answeredOf r = LL.val Ans.the-type Ans′.the-laws (r .answered)
 
-parts : (r : Written) {v : Val} → Is Wr.the-row r (v ∷ []) → Is usize (r .count) (vint w64 (r .count) ∷ []) × (Is S48 (tuples r) (arrayOf r ∷ []) × (Is Ans.the-row (r .answered) (answeredOf r ∷ []) × Unit {0}))
-parts r {v} is = LL.owed Wr.the-type Wr′.the-laws r (v ∷ []) is
+parts : (r : Gathered) {v : Val} → Is Ga.the-row r (v ∷ []) → Is usize (r .count) (vint w64 (r .count) ∷ []) × (Is S48 (tuples r) (arrayOf r ∷ []) × (Is Ans.the-row (r .answered) (answeredOf r ∷ []) × Unit {0}))
+parts r {v} is = LL.owed Ga.the-type Ga′.the-laws r (v ∷ []) is
 
 -- the machine value of a record
 abbrev held : Record → List Val
@@ -121,7 +121,7 @@ module _ {M : Type 1} (𝓤 : URA M) (H : Heap 𝓤) (A : Atoms 𝓤) (mem : Mem
   abbrev Listing : Contract 𝓤
   Listing = tripleOf 𝓤 H A listing.signature (listing.spec 𝓤 H A mem run)
 
-  said-of : (s : Schedule) (n : ℕ) (r : Written) → ent 𝓤 (ensured 𝓤 H A listing.ended (listing.clauses 𝓤 H A mem run) tt (s, (n, tt)) tt r) (fact 𝓤 (Lists s n r))
+  said-of : (s : Schedule) (n : ℕ) (r : Gathered) → ent 𝓤 (ensured 𝓤 H A listing.ended (listing.clauses 𝓤 H A mem run) tt (s, (n, tt)) tt r) (fact 𝓤 (Lists s n r))
   said-of s n r = exE 𝓤 _ (λ ws. snd∗ 𝓤 (sem 𝓤 H A (lasts listing.ended tt (s, (n, tt)) ws)) (fact 𝓤 (Lists s n r)))
 
 module _ {M : Type 1} (𝓤 : URA M) (H : Heap 𝓤) (A : Atoms 𝓤) (W : Given 𝓤 H A) (mem : Memory → SProp 𝓤) (run : Routine → Fun 𝓤) (κ : Lft) (q : Share) (b o : ℕ) (γ : GName)
@@ -178,7 +178,7 @@ module _ {M : Type 1} (𝓤 : URA M) (H : Heap 𝓤) (A : Atoms 𝓤) (W : Given
       Λ = 𝓣 .Λ
 
       abbrev En : Env 𝓤 H
-      En = (Ans′.mir, l₀) ∷ (Sch′.mir, l₁) ∷ (slice, l₂) ∷ (Wr′.mir, l₃) ∷ (tyArray Rec′.mir 48, l₄) ∷ (word, l₅) ∷ (word, l₆) ∷ (word, l₇) ∷ (tyBool, l₈)
+      En = (Ans′.mir, l₀) ∷ (Sch′.mir, l₁) ∷ (slice, l₂) ∷ (Ga′.mir, l₃) ∷ (tyArray Rec′.mir 48, l₄) ∷ (word, l₅) ∷ (word, l₆) ∷ (word, l₇) ∷ (tyBool, l₈)
           ∷ (word, l₉) ∷ (tyPtr, l₁₀) ∷ (tyPtr, l₁₁) ∷ (Rec′.mir, l₁₂) ∷ (word, l₁₃) ∷ (tyPtr, l₁₄) ∷ []
 
       -- the lent list after i turns
@@ -190,10 +190,10 @@ module _ {M : Type 1} (𝓤 : URA M) (H : Heap 𝓤) (A : Atoms 𝓤) (W : Given
       Beside i =
           ‵ (fobor κ q (Held R (length ys) b o γ)) ∷ ‵ (fobs γ (codedHoleys R .code (heres R ys))) ∷ ‵ (fauth γ (codedHoleys R .code (heres R ys)))
           ∷ ‵ (row R fullShare rs l₄ 0) ∷ ‵ (fat fullShare word l₆ 0 (vint w64 i)) ∷ ‵ (fat fullShare slice l₂ 0 sl) ∷ ‵ (fat fullShare word l₅ 0 (vint w64 n))
-          ∷ ‵ (fat fullShare Wr′.mir l₃ 0 (vstruct (vcons (vint w64 n) (vcons arr (vcons av vnil)))))
+          ∷ ‵ (fat fullShare Ga′.mir l₃ 0 (vstruct (vcons (vint w64 n) (vcons arr (vcons av vnil)))))
           ∷ ‵ (froom tyBool l₈ 0) ∷ ‵ (froom word l₉ 0) ∷ ‵ (froom tyPtr l₁₀ 0) ∷ ‵ (froom tyPtr l₁₁ 0) ∷ ‵ (froom Rec′.mir l₁₂ 0) ∷ ‵ (froom word l₁₃ 0) ∷ ‵ (froom tyPtr l₁₄ 0)
           ∷ ‵ (froom Ans′.mir l₀ 0) ∷ ‵ (fat fullShare Sch′.mir l₁ 0 sv) ∷ ‵ (fat fullShare word l₇ 0 (vint w64 (length ys)))
-          ∷ ‵ (fdies Ans′.mir l₀) ∷ ‵ (fdies Sch′.mir l₁) ∷ ‵ (fdies slice l₂) ∷ ‵ (fdies Wr′.mir l₃) ∷ ‵ (fdies (tyArray Rec′.mir 48) l₄) ∷ ‵ (fdies word l₅) ∷ ‵ (fdies word l₆)
+          ∷ ‵ (fdies Ans′.mir l₀) ∷ ‵ (fdies Sch′.mir l₁) ∷ ‵ (fdies slice l₂) ∷ ‵ (fdies Ga′.mir l₃) ∷ ‵ (fdies (tyArray Rec′.mir 48) l₄) ∷ ‵ (fdies word l₅) ∷ ‵ (fdies word l₆)
           ∷ ‵ (fdies word l₇) ∷ ‵ (fdies tyBool l₈) ∷ ‵ (fdies word l₉) ∷ ‵ (fdies tyPtr l₁₀) ∷ ‵ (fdies tyPtr l₁₁) ∷ ‵ (fdies Rec′.mir l₁₂) ∷ ‵ (fdies word l₁₃) ∷ ‵ (fdies tyPtr l₁₄) ∷ []
 
       abbrev At : ℕ → List (Item 𝓤)
@@ -294,17 +294,17 @@ module _ {M : Type 1} (𝓤 : URA M) (H : Heap 𝓤) (A : Atoms 𝓤) (W : Given
         assigns ! (of-opd ! (load ! (from ! (fld ! refl (stop !))) (look-in ! 24 (sub ! 1 refl (whole !))))) (from ! (stop !)) (init ! 14 refl (tt, record { fits = room .0 })) $
         use0 W (raw (Listing 𝓤 H A mem run .pre to-listing)) goes $
         calls-at ! (fmOf 𝓤 H (W .laws) 𝓣) (Listing 𝓤 H A mem run) known to-listing (and-then ! (load ! (from ! (stop !)) (look ! 27 refl)) (and-then ! (load ! (from ! (stop !)) (look ! 15 refl)) (no-more !))) (λ v.
-        use1 W (later (some (λ (r : Written). (‵ ftrue ⊛ ‵ (Wr.the-row .own r (v ∷ []))) ⊛ raw (ensured 𝓤 H A listing.ended (listing.clauses 𝓤 H A mem run) tt (s, (length ys, tt)) tt r)))) (id⊢ 𝓤 _) $ await ! tt $ pick ! (λ r.
+        use1 W (later (some (λ (r : Gathered). (‵ ftrue ⊛ ‵ (Ga.the-row .own r (v ∷ []))) ⊛ raw (ensured 𝓤 H A listing.ended (listing.clauses 𝓤 H A mem run) tt (s, (length ys, tt)) tt r)))) (id⊢ 𝓤 _) $ await ! tt $ pick ! (λ r.
         split ! $ move ! (1 ∷ []) $ use1 W (raw (fact 𝓤 (Lists s (length ys) r))) (said-of 𝓤 H A mem run s (length ys) r) $ heard ! (Lists s (length ys) r) (λ e. split ! $ let-go ! $
-        facts ! Wr.the-row (Is Wr.the-row) (shows 𝓤 H A Wr.the-row) r (v ∷ []) (λ is.
-        land ! (from ! (stop !)) (init ! 22 refl (LL.lawful Wr.the-type Wr′.the-laws 𝓤 H A W .typed r _ is .0)) $
-        rewrite ! 22 (λ (u : Val). ‵ (fat fullShare Wr′.mir l₃ 0 u)) (ap only (LL.tells Wr.the-type Wr′.the-laws r _ is)) refl $
-        assigns ! (of-opd ! (load ! (from ! (fld ! refl (stop !))) (look-in ! 22 (sub ! 1 refl (whole !))))) (from ! (stop !)) (init ! 20 refl (Wr′.the-laws .1 .0 .lawful 𝓤 H A W .typed (tuples r) _ (parts r is .1 .0) .0)) $
+        facts ! Ga.the-row (Is Ga.the-row) (shows 𝓤 H A Ga.the-row) r (v ∷ []) (λ is.
+        land ! (from ! (stop !)) (init ! 22 refl (LL.lawful Ga.the-type Ga′.the-laws 𝓤 H A W .typed r _ is .0)) $
+        rewrite ! 22 (λ (u : Val). ‵ (fat fullShare Ga′.mir l₃ 0 u)) (ap only (LL.tells Ga.the-type Ga′.the-laws r _ is)) refl $
+        assigns ! (of-opd ! (load ! (from ! (fld ! refl (stop !))) (look-in ! 22 (sub ! 1 refl (whole !))))) (from ! (stop !)) (init ! 20 refl (Ga′.the-laws .1 .0 .lawful 𝓤 H A W .typed (tuples r) _ (parts r is .1 .0) .0)) $
         assigns ! (of-opd ! (load ! (from ! (fld ! refl (stop !))) (look-in ! 22 (sub ! 0 refl (whole !))))) (from ! (stop !)) (init ! 18 refl (tt, record { fits = parts r is .0 .1 })) $
         assigns ! (of-opd ! (lit ! tt)) (from ! (stop !)) (init ! 16 refl (tt, record { fits = lit< tt })) $
         -- the array is taken apart into its records
         move ! (20 ∷ []) $ use1 W (‵ (cellAt fullShare (S48 .mir) (arrayOf r ∷ []) l₄ 0)) (W .laws .at-raw fullShare (tyArray Rec′.mir 48) l₄ 0 (arrayOf r)) $
-        pureI ! (S48 .own (tuples r) (arrayOf r ∷ [])) (Wr′.the-plain .1 .0 (tuples r) (arrayOf r ∷ [])) (parts r is .1 .0) $ move ! (1 ∷ 0 ∷ []) $ fjoin ! $
+        pureI ! (S48 .own (tuples r) (arrayOf r ∷ [])) (Ga′.the-plain .1 .0 (tuples r) (arrayOf r ∷ [])) (parts r is .1 .0) $ move ! (1 ∷ 0 ∷ []) $ fjoin ! $
         fpack ! (List Val) (λ us. fsep (cellAt fullShare (S48 .mir) us l₄ 0) (S48 .own (tuples r) us)) (arrayOf r ∷ []) $
         rewrite ! 0 (λ (F : Fml). ‵ F) (sym (array-same (Struct (D.shape Rec.the-type)) Record (Rec.the-type .to) (Rec.the-type .to-one) 48 fullShare (r .records) l₄ 0)) refl $
         use1 W (‵ (arr-parts (shares R) 48 .part fullShare (r .records) l₄ 0)) (array-apart 𝓤 H A W R fullShare tt 48 (r .records) l₄ 0) $ fsplit ! $ feqL ! (λ many.

@@ -1,4 +1,4 @@
--- What the call leaves of 48 empty records.
+-- What the call leaves of empty records.
 use mathlib.Core.Path.{refl, ap, _∙_}
 use borrow.Author.Needs.{needs}
 use Rattle.listing.specs.Listed.{noRecords}

@@ -16,6 +16,10 @@ Inv-loop to₀ from n i₀ to i = (i ≤ n) × (to ≡ take i from ++ drop i to�
 abbrev μ-loop : tie.MeasureT-loop
 μ-loop to₀ from n i₀ to i = n - i
 
+-- from the loop back to the entry of the function
+abbrev start : tie.At-loop Inv-loop μ-loop → tie.Start Inv-loop μ-loop
+start loop = loop .before .before .before
+
 returns : tie.Need-returns Inv-loop μ-loop
 returns c = sym (copy-short _ _ _ (omega arith))
 
@@ -29,10 +33,16 @@ loop-holds c = (omega arith, refl)
 long : (old from now : List ℕ) (i : ℕ) → i < length old → i < length from → now ≡ take i from ++ drop i old → i < length now
 long old from now i l m e = omega (arith, ap length e, copied-length old from i (omega arith) (omega arith))
 
+slice-write-to : tie.Need-slice-write-to Inv-loop μ-loop
+slice-write-to c =
+    let l = c .before .before .loop in
+    let a = start (c .before .before) .args in
+    long (a .to .now) (a .from .now) (l .to) (l .i) (omega arith) (omega arith) (l .inv .1)
+
 loop-again : tie.Need-loop-again Inv-loop μ-loop
 loop-again c =
     let l = c .before .before .loop in
-    let a = c .before .before .before .before .before .args in (
+    let a = start (c .before .before) .args in (
       omega arith,
       ap (λ b. set b (l .i) (getD (a .from .now) (l .i) 0)) (l .inv .1) ∙ copied-more 0 (a .to .now) (a .from .now) (l .i) (omega arith) (omega arith),
     )
@@ -40,13 +50,13 @@ loop-again c =
 same-length : tie.Need-same-length Inv-loop μ-loop
 same-length c =
     let l = c .before .loop in
-    let a = c .before .before .before .before .args in
+    let a = start (c .before) .args in
     ap length (l .inv .1) ∙ copied-length (a .to .now) (a .from .now) (l .i) (omega arith) (omega arith)
 
 returns-3 : tie.Need-returns-3 Inv-loop μ-loop
 returns-3 c =
     let l = c .before .loop in
-    let a = c .before .before .before .before .args in
+    let a = start (c .before) .args in
     let z : l .i ≡ a .n = omega arith in
     rw z at (l .inv .1) ∙ copied-all (a .to .now) (a .from .now) (a .n) (omega arith) ∙ sym (copy-inside _ _ _ (omega arith) (omega arith))
 
@@ -60,7 +70,7 @@ copy-spec =
     returns-2
     loop-holds
     (λ c. search needs)
-    (λ c. let l = c .before .before .loop in let a = c .before .before .before .before .before .args in long (a .to .now) (a .from .now) (l .to) (l .i) (omega arith) (omega arith) (l .inv .1))
+    slice-write-to
     (λ c. search needs)
     (λ c. search needs)
     loop-again

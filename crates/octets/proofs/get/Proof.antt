@@ -17,6 +17,10 @@ Inv-loop b at n x₀ i₀ x i = (i ≤ n) × (x ≡ read i at b)
 abbrev μ-loop : tie.MeasureT-loop
 μ-loop b at n x₀ i₀ x i = n - i
 
+-- from the loop back to the entry of the function
+abbrev start : tie.At-loop Inv-loop μ-loop → tie.Start Inv-loop μ-loop
+start loop = loop .before .before .before .before
+
 returns : tie.Need-returns Inv-loop μ-loop
 unfolding getAt
 returns c = simp (lt-leb _ _ (c .if1 .taken))
@@ -33,19 +37,22 @@ loop-holds c = (omega arith, refl)
 
 cast-byte : tie.Need-cast-byte Inv-loop μ-loop
 cast-byte c =
-    let a = c .before .before .before .before .before .before .args in
-    omega (arith, c .shared-slice-known .given (a .at + c .before .before .loop .i))
+    let loop = c .before .before in
+    let a = start loop .args in
+    omega (arith, c .shared-slice-known .given (a .at + loop .loop .i))
 
 -- what was read of fewer than 8 bytes leaves room for one more
 mul-x : tie.Need-mul-x Inv-loop μ-loop
 mul-x c =
-    let a = c .before .before .before .before .before .before .args in
-    omega (arith, read-room (a .b .now) (λ k. omega (arith, c .shared-slice-known .given k)) (c .before .before .loop .i) (a .at) (omega arith))
+    let loop = c .before .before in
+    let a = start loop .args in
+    omega (arith, read-room (a .b .now) (λ k. omega (arith, c .shared-slice-known .given k)) (loop .loop .i) (a .at) (omega arith))
 
 add-x : tie.Need-add-x Inv-loop μ-loop
 add-x c =
-    let a = c .before .before .before .before .before .before .args in
-    let i = c .before .before .loop .i in
+    let loop = c .before .before in
+    let a = start loop .args in
+    let i = loop .loop .i in
     omega (arith, read-room (a .b .now) (λ k. omega (arith, c .shared-slice-known .given k)) i (a .at) (omega arith), c .shared-slice-known .given (a .at + i))
 
 loop-again : tie.Need-loop-again Inv-loop μ-loop
@@ -55,7 +62,7 @@ loop-again c = let l = c .before .before .loop in (omega arith, rw (add-one, l .
 returns-4 : tie.Need-returns-4 Inv-loop μ-loop
 returns-4 c =
     let l = c .before .loop in
-    let z : l .i ≡ c .before .before .before .before .before .args .n = omega arith in
+    let z : l .i ≡ start (c .before) .args .n = omega arith in
     rw z at (l .inv .1) ∙ sym (get-inside _ _ _ (omega arith) (omega arith))
 
 pub get-spec : {M : Type 1} → statement M

@@ -4,12 +4,12 @@ use Prim.Native.Nat.{_≤_}
 use native.Mathlib.Omega.{arith}
 use borrow.Author.Needs.{needs}
 use Rattle.octets.proofs.Fits.{put-inside, put-outside}
-use Rattle.octets.proofs.Writes.{Left, left-all, left-less, left-none}
+use Rattle.octets.proofs.Writes.{NumberLeft, left-all, left-less, left-none}
 use Rattle.octets.proofs.put.Statement.{statement}
 use Rattle.octets.proofs.put.Tie as tie
 
 abbrev Inv-loop : tie.InvT-loop
-Inv-loop b₀ at n x rest₀ i₀ b rest i = (i ≤ n) × Left b₀ at n x b rest i
+Inv-loop b₀ at n x rest₀ i₀ b rest i = (i ≤ n) × NumberLeft b₀ at n x b rest i
 
 abbrev μ-loop : tie.MeasureT-loop
 μ-loop b₀ at n x rest₀ i₀ b rest i = i

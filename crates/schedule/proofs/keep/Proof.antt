@@ -3,20 +3,21 @@ use mathlib.Core.Path.{_≡_, refl, sym, ap, _∙_}
 use Prim.Native.Nat.{ℕ, suc, _+_, _-_, _<_, _≤_}
 use mathlib.Core.List.{List}
 use native.Mathlib.Omega.{arith}
-use native.Mathlib.Numerals.{add-one}
 use borrow.Author.Needs.{needs}
 use lib.ListN.{length, getD, take, drop, set, length-set, length-drop}
 use lib.Seq.{take-suc, take-suc-set, drop-set-lt, drop-drop, getD-drop}
+use Rattle.schedule.specs.Pieces.{mostKept}
 use Rattle.schedule.proofs.keep.Statement.{statement}
 use Rattle.schedule.proofs.keep.Tie as tie
 
-pub record Moved (old new : List ℕ) (from n : ℕ) : Type 0 where
-  pub size : length new ≡ length old
-  pub front : take n new ≡ take n (drop from old)
-  pub rest : drop n new ≡ drop n old
+-- the first n bytes from a place on stand at the front, and behind them all is as it was
+record Shifted (old new : List ℕ) (from n : ℕ) : Type 0 where
+  size : length new ≡ length old
+  front : take n new ≡ take n (drop from old)
+  rest : drop n new ≡ drop n old
 
-moved-more : {old new : List ℕ} {from n : ℕ} → from + n < length old → Moved old new from n → Moved old (set new n (getD new (from + n) 0)) from (n + 1)
-moved-more {old} {new} {from} {n} h m =
+shifted-more : {old new : List ℕ} {from n : ℕ} → from + n < length old → Shifted old new from n → Shifted old (set new n (getD new (from + n) 0)) from (n + 1)
+shifted-more {old} {new} {from} {n} h m =
     let x = getD new (from + n) 0 in
     let swap : from + n ≡ n + from = omega arith in
     let same : x ≡ getD (drop from old) n 0 =
@@ -29,10 +30,10 @@ moved-more {old} {new} {from} {n} h m =
     }
 
 abbrev Inv-loop : tie.InvT-loop
-Inv-loop buffer₀ from to n₀ buffer n = (n ≤ 69) × (from + n ≤ to) × Moved buffer₀ buffer from n
+Inv-loop buffer₀ from to n₀ buffer n = (n ≤ mostKept) × (from + n ≤ to) × Shifted buffer₀ buffer from n
 
 abbrev μ-loop : tie.MeasureT-loop
-μ-loop buffer₀ from to n₀ buffer n = 69 - n
+μ-loop buffer₀ from to n₀ buffer n = mostKept - n
 
 loop-holds : tie.Need-loop-holds Inv-loop μ-loop
 loop-holds c = (omega arith, omega arith, record { size = refl; front = refl; rest = refl })
@@ -44,7 +45,7 @@ same-length : tie.Need-same-length Inv-loop μ-loop
 same-length c = c .before .before .loop .inv .2 .size
 
 returns : tie.Need-returns Inv-loop μ-loop
-returns c = (omega (arith, c .before .before .loop .inv .0), c .before .before .loop .inv .2 .front)
+returns c = let l = c .before .before .loop in record { count = omega (arith, l .inv .0); front = l .inv .2 .front }
 
 add-buffer : tie.Need-add-buffer Inv-loop μ-loop
 add-buffer c = record { fits = omega (arith, c .before .before .loop .inv .1, c .before .before .before .fits .to) }
@@ -64,13 +65,13 @@ loop-less c = search needs
 loop-again : tie.Need-loop-again Inv-loop μ-loop
 loop-again c =
     let l = c .before .before .before .loop in
-    (omega arith, omega (arith, c .before .if1 .left, l .inv .1), moved-more (omega (arith, c .before .if1 .left, l .inv .1)) (l .inv .2))
+    (omega arith, omega (arith, c .before .if1 .left, l .inv .1), shifted-more (omega (arith, c .before .if1 .left, l .inv .1)) (l .inv .2))
 
 same-length-2 : tie.Need-same-length-2 Inv-loop μ-loop
 same-length-2 c = c .before .loop .inv .2 .size
 
 returns-2 : tie.Need-returns-2 Inv-loop μ-loop
-returns-2 c = (omega (arith, c .before .loop .inv .1, c .before .loop .inv .0), c .before .loop .inv .2 .front)
+returns-2 c = let l = c .before .loop in record { count = omega (arith, l .inv .1, l .inv .0); front = l .inv .2 .front }
 
 pub keep-spec : {M : Type 1} → statement M
 keep-spec =

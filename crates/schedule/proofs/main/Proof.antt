@@ -1,5 +1,5 @@
 -- The schedule stays sound, and what is kept of a line short.
-use mathlib.Core.Path.{_≡_, refl, sym}
+use mathlib.Core.Path.{_≡_, sym}
 use Prim.Native.Nat.{_≤_}
 use mathlib.Core.Bool.{true}
 use native.Mathlib.Omega.{arith}
@@ -9,11 +9,12 @@ use Rattle.rules.specs.Sound.{sound}
 use Rattle.rules.specs.Records.{fresh}
 use Rattle.rules.proofs.SoundState.{sound-pad}
 use Rattle.rules.proofs.SoundKept.{sound-fresh}
+use Rattle.schedule.specs.Pieces.{bufferSize, mostKept}
 use Rattle.schedule.proofs.main.Statement.{statement}
 use Rattle.schedule.proofs.main.Tie as tie
 
 abbrev Inv-loop : tie.InvT-loop
-Inv-loop buffer₀ out₀ s₀ kept₀ turns₀ buffer out s kept turns = (length buffer ≡ 65536) × (length out ≡ 65536) × (sound s ≡ true) × (kept ≤ 69)
+Inv-loop buffer₀ out₀ s₀ kept₀ turns₀ buffer out s kept turns = (length buffer ≡ bufferSize) × (length out ≡ bufferSize) × (sound s ≡ true) × (kept ≤ mostKept)
 
 abbrev μ-loop : tie.MeasureT-loop
 μ-loop buffer₀ out₀ s₀ kept₀ turns₀ buffer out s kept turns = turns
@@ -24,7 +25,7 @@ loop-holds c = (sym (c .before .before .large-buffer .ensures), sym (c .before .
 loop-again : tie.Need-loop-again Inv-loop μ-loop
 loop-again c =
     let t = c .before .before .before .before in
-    (search needs, search needs, t .take-turn .ensures .0, t .take-turn .ensures .1)
+    (search needs, search needs, t .take-turn .ensures .kept-rules, t .take-turn .ensures .few)
 
 pub main-spec : {M : Type 1} → statement M
 main-spec =

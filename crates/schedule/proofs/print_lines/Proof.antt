@@ -12,8 +12,8 @@ use Rattle.rules.specs.Sound.{sound}
 use Rattle.rules.specs.Printed.{linesOf, tellAll}
 use Rattle.calls.specs.declared.Ran.{Ran}
 use Rattle.calls.specs.Lines.{endedOf, ranOf, runOutcome}
-use Rattle.calls.specs.Whole.{wrote, GoesOn}
-use Rattle.calls.proofs.Progress.{Went, went}
+use Rattle.calls.specs.Whole.{wrote, TextGoesOn}
+use Rattle.calls.proofs.Progress.{went}
 use Rattle.calls.proofs.Whole.{step, ended-step}
 use Rattle.schedule.proofs.print_lines.Statement.{statement}
 use Rattle.schedule.proofs.print_lines.Tie as tie
@@ -39,7 +39,7 @@ module _ {first : Schedule} {piece : List ℕ} {s : Schedule} {from : ℕ} (p : 
       }
 
   -- no line that has ended is left
-  printed-all : endedOf (drop from piece) ≡ [] → GoesOn first piece s (drop from piece)
+  printed-all : endedOf (drop from piece) ≡ [] → TextGoesOn first piece s (drop from piece)
   unfolding tellAll
   printed-all none after =
       let all : tellAll first (endedOf piece) ≡ p .text = p .ended ∙ rw none (append-nil (p .text)) in
@@ -51,71 +51,93 @@ Inv-loop s₀ piece out₀ from₀ s out from = (sound s ≡ true) × (from ≤ 
 abbrev μ-loop : tie.MeasureT-loop
 μ-loop s₀ piece out₀ from₀ s out from = length piece - from
 
+-- back to where the run of a turn gave the buffer back: from where its bytes are counted, where they are written, and where it is known that it took some
+abbrev ran : tie.After-count Inv-loop μ-loop → tie.After-out Inv-loop μ-loop
+ran counted = counted .before .before .before
+
+abbrev wrote-of : tie.After-write-all Inv-loop μ-loop → tie.After-out Inv-loop μ-loop
+wrote-of written = ran (written .before .before)
+
+abbrev took : tie.Else2 Inv-loop μ-loop → tie.After-out Inv-loop μ-loop
+took some = wrote-of (some .before .before .before)
+
+-- the turn of a run, and the entry of the function
+abbrev loop-of : tie.After-run Inv-loop μ-loop → tie.At-loop Inv-loop μ-loop
+loop-of r = r .before .before .before
+
+abbrev start : tie.At-loop Inv-loop μ-loop → tie.Start Inv-loop μ-loop
+start loop = loop .before .before .before
+
+-- a run takes what is left of the piece
+rest-of : (loop : tie.At-loop Inv-loop μ-loop) → let piece = start loop .args .piece .now in
+    take (length piece - loop .loop .from) (drop (loop .loop .from) piece) ≡ drop (loop .loop .from) piece
+rest-of loop =
+    let piece = start loop .args .piece .now in
+    take-all (length piece - loop .loop .from) (drop (loop .loop .from) piece) (omega (arith, length-drop (loop .loop .from) piece))
+
 loop-holds : tie.Need-loop-holds Inv-loop μ-loop
-loop-holds c = (c .before .before .pre .0, omega arith, refl, record { text = []; lines = λ after. refl; ended = refl })
+loop-holds c = (c .before .before .pre .kept-rules, omega arith, refl, record { text = []; lines = λ after. refl; ended = refl })
 
 part-run-start : tie.Need-part-run-start Inv-loop μ-loop
 part-run-start c = c .loop .inv .1
 
 slice-reshare-prefix-write-all : tie.Need-slice-reshare-prefix-write-all Inv-loop μ-loop
 slice-reshare-prefix-write-all c =
-    let r = c .before .before .before .before in
-    let l = r .before .before .before .loop in
-    let a = r .before .before .before .before .before .before .args in
+    let r = ran c .before in
+    let l = loop-of r .loop in
     let w = went (l .s) (l .inv .0) (r .run .result) (r .run .ensures) in
-    omega (arith, w .fits, c .count .ensures, c .before .before .before .out .given)
+    omega (arith, w .fits, c .count .ensures, ran c .out .given)
 
 slice-aggregate-write-all : tie.Need-slice-aggregate-write-all Inv-loop μ-loop
-slice-aggregate-write-all c =
-    let r = c .before .before .before .before .before in
-    let l = r .before .before .before .loop in
-    let a = r .before .before .before .before .before .before .args in
-    let w = went (l .s) (l .inv .0) (r .run .result) (r .run .ensures) in
-    sym (length-take-le (c .before .count .result) _ (omega (arith, w .fits, c .before .count .ensures, c .before .before .before .before .out .given)))
+slice-aggregate-write-all c = sym (length-take-le (c .before .count .result) _ (slice-reshare-prefix-write-all (c .before)))
 
 returns : tie.Need-returns Inv-loop μ-loop
 returns c =
-    let r = c .before .before .before .before .before .before .before in
-    let l = r .before .before .before .loop in
-    let a = r .before .before .before .before .before .before .args in
+    let r = wrote-of (c .before) .before in
+    let l = loop-of r .loop in
     let w = went (l .s) (l .inv .0) (r .run .result) (r .run .ensures) in
-    (w .is-sound, l .inv .1, (λ e. absurd (false≢true e)), λ e. absurd (false≢true e))
+    record { kept-rules = w .is-sound; within = l .inv .1; none-left = λ e. absurd (false≢true e); goes-on = λ e. absurd (false≢true e) }
 
 returns-2 : tie.Need-returns-2 Inv-loop μ-loop
 returns-2 c =
-    let r = c .before .before .before .before .before .before .before .before .before in
-    let l = r .before .before .before .loop in
-    let a = r .before .before .before .before .before .before .args in
+    let r = wrote-of (c .before .before .before) .before in
+    let l = loop-of r .loop in
     let w = went (l .s) (l .inv .0) (r .run .result) (r .run .ensures) in
-    let all = take-all (length (a .piece .now) - l .from) (drop (l .from) (a .piece .now)) (omega (arith, length-drop (l .from) (a .piece .now))) in
-    let none = rw all at (w .some (omega (arith, r .before .before .before .before .before .before .pre .1, l .inv .2)) (c .if2 .taken)) in
+    let all = rest-of (loop-of r) in
+    let none = rw all at (w .some (omega (arith, start (loop-of r) .pre .room, l .inv .2)) (c .if2 .taken)) in
     let stays : l .from + r .run .result .read ≡ l .from = omega (arith, c .if2 .taken) in
-    (w .is-sound, l .inv .1, (λ e. none), λ e. printed-all (rw stays at (printed-more (l .inv .3) (r .run .result) _ (r .run .ensures) all)) none)
+    record {
+      kept-rules = w .is-sound;
+      within = l .inv .1;
+      none-left = λ e. none;
+      goes-on = λ e. printed-all (rw stays at (printed-more (l .inv .3) (r .run .result) _ (r .run .ensures) all)) none;
+    }
 
 add-from : tie.Need-add-from Inv-loop μ-loop
 add-from c =
-    let r = c .before .before .before .before .before .before .before .before .before .before in
-    let l = r .before .before .before .loop in
-    let a = r .before .before .before .before .before .before .args in
+    let r = took (c .before) .before in
+    let l = loop-of r .loop in
     let w = went (l .s) (l .inv .0) (r .run .result) (r .run .ensures) in
-    record { fits = omega (arith, w .within, l .inv .1, length-take-le (length (a .piece .now) - l .from) (drop (l .from) (a .piece .now)) (omega (arith, length-drop (l .from) (a .piece .now))), length-drop (l .from) (a .piece .now)) }
+    record { fits = omega (arith, w .within, l .inv .1, ap length (rest-of (loop-of r)), length-drop (l .from) (start (loop-of r) .args .piece .now)) }
 
 loop-less : tie.Need-loop-less Inv-loop μ-loop
 loop-less c =
-    let r = c .before .before .before .before .before .before .before .before .before .before in
-    let l = r .before .before .before .loop in
-    let a = r .before .before .before .before .before .before .args in
+    let r = took (c .before) .before in
+    let l = loop-of r .loop in
     let w = went (l .s) (l .inv .0) (r .run .result) (r .run .ensures) in
     omega (arith, w .within, c .before .if2 .left, l .inv .1)
 
 loop-again : tie.Need-loop-again Inv-loop μ-loop
 loop-again c =
-    let r = c .before .before .before .before .before .before .before .before .before .before in
-    let l = r .before .before .before .loop in
-    let a = r .before .before .before .before .before .before .args in
-    let w = went (l .s) (l .inv .0) (r .run .result) (r .run .ensures) in
-    let all = take-all (length (a .piece .now) - l .from) (drop (l .from) (a .piece .now)) (omega (arith, length-drop (l .from) (a .piece .now))) in
-    (w .is-sound, omega (arith, w .within, l .inv .1), c .before .before .before .before .before .before .before .before .before .out .given ∙ l .inv .2, printed-more (l .inv .3) (r .run .result) _ (r .run .ensures) all)
+    let back = took (c .before) in
+    let r = back .before in
+    let l = loop-of r .loop in
+    let w = went (l .s) (l .inv .0) (r .run .result) (r .run .ensures) in (
+      w .is-sound,
+      omega (arith, w .within, l .inv .1),
+      back .out .given ∙ l .inv .2,
+      printed-more (l .inv .3) (r .run .result) _ (r .run .ensures) (rest-of (loop-of r)),
+    )
 
 pub print-lines-spec : {M : Type 1} → statement M
 print-lines-spec =

@@ -1,9 +1,7 @@
 -- The lines end within what was read.
-use mathlib.Core.Path.{_≡_, sym, ap, _∙_}
-use Prim.Native.Nat.{_+_, _≤_}
-use native.Mathlib.Omega.{arith}
+use mathlib.Core.Path.{sym}
+use Prim.Native.Nat.{_+_}
 use borrow.Author.Needs.{needs}
-use lib.ListN.{length}
 use lib.Seq.{length-take-le}
 use Rattle.schedule.proofs.take_turn.Statement.{statement}
 use Rattle.schedule.proofs.take_turn.Tie as tie
@@ -12,12 +10,18 @@ slice-reshare-prefix-print-lines : tie.Need-slice-reshare-prefix-print-lines
 slice-reshare-prefix-print-lines c = search needs
 
 slice-aggregate-print-lines : tie.Need-slice-aggregate-print-lines
-slice-aggregate-print-lines c = sym (length-take-le (c .before .before .before .before .before .before .before .before .before .before .before .args .kept + c .before .before .count .result) _ (slice-reshare-prefix-print-lines (c .before)))
+slice-aggregate-print-lines c =
+    let counted = c .before .before in
+    let back = counted .before .before .before in
+    let got = back .before .before in
+    let start = got .before .before .before .before in
+    sym (length-take-le (start .args .kept + counted .count .result) _ (slice-reshare-prefix-print-lines (c .before)))
 
 keep-requires : tie.Need-keep-requires
 keep-requires c κs =
-    let p = c .before .before .before .before .before .before in
-    (rw (← slice-aggregate-print-lines p) at (c .before .before .before .before .print-lines .ensures .1), slice-reshare-prefix-print-lines (p .before))
+    let printed = c .before .before .before .before in
+    let piece = printed .before .before in
+    record { ordered = rw (← slice-aggregate-print-lines piece) at (printed .print-lines .ensures .within); there = slice-reshare-prefix-print-lines (piece .before) }
 
 pub take-turn-spec : {M : Type 1} → statement M
 take-turn-spec =

@@ -5,7 +5,7 @@ use native.Mathlib.Omega.{arith}
 use borrow.Author.Tests.{not-true, not-false}
 use lib.ListN.{length, drop}
 use Rattle.rules.specs.Lists.{each}
-use Rattle.rules.specs.Records.{mostEvents, noEntry}
+use Rattle.rules.specs.Records.{mostEvents}
 use Rattle.rules.specs.Sound.{unused}
 use Rattle.rules.proofs.Lengths.{lengths}
 use Rattle.sound.proofs.Forward.{passed, failed, ended}
@@ -24,12 +24,12 @@ loop-holds c = (lengths (c .args .t1) _ (c .good .0) .entries, refl)
 returns : tie.Need-returns Inv-loop μ-loop
 returns c =
     let l = c .before .before .before .before .loop in
-    failed unused _ (l .i) noEntry (omega arith) _ (c .before .is-unused .ensures) (not-true _ (c .if1 .taken)) ∙ l .inv .1
+    failed unused _ (l .i) _ (omega arith) _ (c .before .is-unused .ensures) (not-true _ (c .if1 .taken)) ∙ l .inv .1
 
 loop-again : tie.Need-loop-again Inv-loop μ-loop
 loop-again c =
     let l = c .before .before .before .before .loop in
-    (l .inv .0, passed unused _ (l .i) noEntry (omega arith) _ (c .before .is-unused .ensures) (not-false _ (c .if1 .left)) ∙ l .inv .1)
+    (l .inv .0, passed unused _ (l .i) _ (omega arith) _ (c .before .is-unused .ensures) (not-false _ (c .if1 .left)) ∙ l .inv .1)
 
 returns-2 : tie.Need-returns-2 Inv-loop μ-loop
 returns-2 c = let l = c .before .loop in ended unused _ (l .i) (omega arith) ∙ l .inv .1

@@ -8,8 +8,8 @@ use Rattle.sound.proofs.is_in_period.Tie as tie
 returns : tie.Need-returns
 unfolding inPeriod lasting
 returns c =
-    let b = c .before .before .before .before .before in
-    rw (ap (λ d. d .time) (b .effective-end .ensures), ap (λ d. d .time) (b .before .drawn-start .ensures))
+    let end = c .before .before .before .before .before in
+    rw (ap (λ d. d .time) (end .effective-end .ensures), ap (λ d. d .time) (end .before .drawn-start .ensures))
 
 pub is-in-period-spec : {M : Type 1} → statement M
 is-in-period-spec = tie.close (tie.spec (λ c κs. search needs) (λ c κs. search needs) returns)

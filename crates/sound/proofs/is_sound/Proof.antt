@@ -11,22 +11,27 @@ use Rattle.rules.proofs.Lengths.{whole-always}
 use Rattle.sound.proofs.is_sound.Statement.{statement}
 use Rattle.sound.proofs.is_sound.Tie as tie
 
+-- from the test of the limits back to the entry of the function
+abbrev start : tie.Then1 → tie.Start
+start limits = limits .before .before .before
+
 has-sound-entries-requires : tie.Need-has-sound-entries-requires
 has-sound-entries-requires c κs =
-    let s = c .before .before .before .before .before .args .s in
-    leb-true (s .count) mostEvents (each-true (leb (s .clock) lastClock) (leb (s .count) mostEvents) (c .before .before .if1 .taken) .1)
+    let limits = c .before .before in
+    let s = start limits .args .s in
+    leb-true (s .count) mostEvents (each-true (leb (s .clock) lastClock) (leb (s .count) mostEvents) (limits .if1 .taken) .1)
 
 returns : tie.Need-returns
 unfolding sound withinLimits
 returns c =
-    let start = c .before .before .before .before .before .before in
-    let s = start .args .s in
-    let within : withinLimits s ≡ true = c .before .before .before .if1 .taken in
+    let limits = c .before .before .before in
+    let s = start limits .args .s in
+    let within : withinLimits s ≡ true = limits .if1 .taken in
     rw (
       c .has-sound-entries .ensures,
       c .before .has-unused-rest .ensures,
       c .before .before .has-sound-programs .ensures,
-      whole-always s _ (start .good .0),
+      whole-always s _ (start limits .good .0),
       within,
     )
 

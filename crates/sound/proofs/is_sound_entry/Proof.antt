@@ -8,28 +8,29 @@ use borrow.Author.Tests.{leb-true}
 use lib.Dec.{leb}
 use Rattle.rules.specs.declared.Program.{Program}
 use Rattle.rules.specs.declared.Entry.{Entry}
-use Rattle.rules.specs.Records.{programAt}
+use Rattle.rules.specs.Records.{lastProgram, programAt}
 use Rattle.rules.specs.Sound.{ofProgram, wellFormed, soundEntry}
 use Rattle.sound.proofs.is_sound_entry.Statement.{statement}
 use Rattle.sound.proofs.is_sound_entry.Tie as tie
 
-looked-up : (ps : List Program) (p : Program) (h : Entry) → (h .event .program ≤ 7 → programAt ps (h .event .program) ≡ p)
-    → leb (h .event .program) 7 && p .added ≡ ofProgram ps h
+looked-up : (ps : List Program) (p : Program) (h : Entry) → (h .event .program ≤ lastProgram → programAt ps (h .event .program) ≡ p)
+    → leb (h .event .program) lastProgram && p .added ≡ ofProgram ps h
 unfolding ofProgram
-looked-up ps p h f = go (leb (h .event .program) 7) refl
+looked-up ps p h f = go (leb (h .event .program) lastProgram) refl
   where
-    go : (b : Bool) → leb (h .event .program) 7 ≡ b → b && p .added ≡ b && programAt ps (h .event .program) .added
-    go true e = rw (f (leb-true (h .event .program) 7 e))
+    go : (b : Bool) → leb (h .event .program) lastProgram ≡ b → b && p .added ≡ b && programAt ps (h .event .program) .added
+    go true e = rw (f (leb-true (h .event .program) lastProgram e))
     go false e = refl
 
 returns : tie.Need-returns
 unfolding soundEntry wellFormed
 returns c ps f =
-    let start = c .before .before .before .before .before in
+    let malformed = c .before .before in
+    let start = malformed .before .before .before in
     rw (
       c .is-rightly-held .ensures,
       c .before .is-in-period .ensures,
-      c .before .before .is-malformed .ensures,
+      malformed .is-malformed .ensures,
       ← looked-up ps (start .args .p) (start .args .h) f,
     )
     (simp and-assoc)

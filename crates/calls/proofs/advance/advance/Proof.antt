@@ -10,24 +10,23 @@ moments-requires : tie.Need-moments-requires
 moments-requires c κs =
     let pre = c .before .before .before .before .before .before .before .pre in
     let picked = c .before .before .before .before .pick .ensures in
-    ((pre .0 .size, placed (pre .0) picked, ready (pre .0) picked, running (pre .0) picked), (pre .1 .0, pre .1 .1, pre .1 .2, refl))
+    ((pre .0 .used .size, placed (pre .0) picked, ready (pre .0) picked, running (pre .0) picked), (pre .1 .0, pre .1 .1, pre .1 .2, refl))
 
 give-back-requires : tie.Need-give-back-requires
 give-back-requires c κs =
     let pre = c .before .before .before .before .before .before .before .before .before .before .before .pre in
     let picked = c .before .before .before .before .before .before .before .before .pick .ensures in
-    (omega (arith, picked .few, pre .0 .count), pre .0 .size, placed (pre .0) picked)
+    (omega (arith, picked .few, pre .0 .used .few), pre .0 .used .size, placed (pre .0) picked)
 
 finish-requires : tie.Need-finish-requires
-finish-requires c κs = (c .before .before .before .before .before .before .before .before .before .before .before .before .before .pre .0 .count, c .before .give-back .ensures .size)
+finish-requires c κs = record { few = c .before .before .before .before .before .before .before .before .before .before .before .before .before .pre .0 .used .few; size = c .before .give-back .ensures .size }
 
 returns : tie.Need-returns
 returns c =
     let pre = c .before .before .before .before .before .before .before .before .before .before .before .before .before .before .pre in
     let f = c .finish .ensures in
     record {
-      size = f .size;
-      count = omega (arith, f .count, pre .0 .count);
+      used = f .used;
       advanced = merged (pre .0) (c .before .before .before .before .before .before .before .before .before .before .before .pick .ensures) (pre .1 .0) _ _ _ _ _ _ (c .before .before .before .before .before .before .moments .ensures) (c .before .before .give-back .ensures) f _ refl refl refl;
     }
 

@@ -3,6 +3,7 @@ use mathlib.Core.Path.{_≡_, refl, _∙_}
 use Prim.Native.Nat.{ℕ, _-_}
 use native.Mathlib.Omega.{arith}
 use lib.ListN.{length}
+use Rattle.rules.specs.Records.{mostEvents}
 use Rattle.calls.specs.Slots.{scheduleOf}
 use Rattle.calls.specs.Columns.{nextOf}
 use Rattle.calls.specs.Held.{columnsOf}
@@ -16,9 +17,9 @@ Inv-loop slots places to rows₀ held₀ n from programs begins ends carried kep
     (clock : ℕ)
     × Going (scheduleOf (record { clock = from; count = n; programs = programs }) (slotsAt slots places)) to n (columnsOf programs (slotsAt slots places) begins ends carried) rows₀ rows held clock at
     × (t ≡ nextOf clock limit n begins ends)
-    × (length held ≡ 48)
-    × (length kept ≡ 48)
-    × (length codes ≡ 48)
+    × (length held ≡ mostEvents)
+    × (length kept ≡ mostEvents)
+    × (length codes ≡ mostEvents)
 
 abbrev μ-loop : tie.MeasureT-loop
 μ-loop slots places to rows₀ held₀ n from programs begins ends carried kept₀ codes₀ limit t₀ at₀ rows held kept codes t at = limit - t
@@ -26,13 +27,13 @@ abbrev μ-loop : tie.MeasureT-loop
 columns-of-requires : tie.Need-columns-of-requires Inv-loop μ-loop
 columns-of-requires c κs =
     let pre = c .before .before .before .before .before .pre in
-    (pre .0 .2 .count, pre .0 .0, pre .0 .1, refl, refl, refl, pre .1 .3)
+    (pre .0 .2 .used .few, pre .0 .0, pre .0 .1, refl, refl, refl, pre .1 .3)
 
 add-limit : tie.Need-add-limit Inv-loop μ-loop
 add-limit c = record { fits = omega (arith, c .before .before .before .before .before .before .pre .1 .1) }
 
 next-moment-requires : tie.Need-next-moment-requires Inv-loop μ-loop
-next-moment-requires c κs = c .before .before .before .before .before .before .before .before .pre .0 .2 .count
+next-moment-requires c κs = c .before .before .before .before .before .before .before .before .pre .0 .2 .used .few
 
 loop-holds : tie.Need-loop-holds Inv-loop μ-loop
 loop-holds c =

@@ -1,47 +1,44 @@
 -- A row is three parts, one after the other.
-use Prim.Native.Nat.{_*_}
+use Prim.Native.Nat.{_+_, _*_, _≤_}
 use native.Mathlib.Omega.{arith}
 use borrow.Author.Needs.{needs}
-use Rattle.calls.proofs.Puts.{row-put, row-given, row-not, row-fits}
+use lib.ListN.{length}
+use Rattle.rules.specs.Records.{idSize, idNumber}
+use Rattle.rules.specs.Bytes.{rowSize}
+use Rattle.calls.proofs.Puts.{number-put, row-put, row-given, row-not, row-fits}
 use Rattle.calls.proofs.clock.add_row.Statement.{statement}
 use Rattle.calls.proofs.clock.add_row.Tie as tie
 
-put8-requires : tie.Need-put8-requires
-put8-requires c κs =
-    let a = c .before .before .args in
-    (omega (arith, row-fits (a .at) (a .t) (a .id) (a .code) (a .k) (c .before .if1 .taken) (c .before .before .pre .1)), c .before .before .pre .0)
-
-put8-requires-2 : tie.Need-put8-requires-2
-put8-requires-2 c κs =
-    let d = c .before .before .before in
+-- what is known where the row is written: it lies within the buffer
+fits : (d : tie.Then1) → let a = d .before .args in a .at * rowSize + rowSize ≤ length (a .rows .now)
+fits d =
     let a = d .before .args in
-    (omega (arith, row-fits (a .at) (a .t) (a .id) (a .code) (a .k) (d .if1 .taken) (d .before .pre .1)), omega (arith, c .before .put8 .ensures .size, d .before .pre .0))
+    omega (arith, row-fits (a .at) (a .t) (idNumber (a .id)) (a .code) (a .k) (d .if1 .taken) (d .before .pre .1), d .before .pre .0)
 
 element-write-rows : tie.Need-element-write-rows
-element-write-rows c =
-    let d = c .before .before .before .before in
-    let a = d .before .args in
-    omega (arith, row-fits (a .at) (a .t) (a .id) (a .code) (a .k) (d .if1 .taken) (d .before .pre .1))
+element-write-rows c = let taken = c .before .before .before .before in omega (arith, fits taken, taken .before .pre .0)
 
 returns : tie.Need-returns
 returns c =
-    let d = c .before .before .before .before in
-    let a = d .before .args in
-    row-given (a .at) (a .t) (a .id) (a .code) (a .k) (d .if1 .taken)
-    (row-put (a .at * 17) (a .t) (a .id) (a .k) (omega arith) (omega (arith, row-fits (a .at) (a .t) (a .id) (a .code) (a .k) (d .if1 .taken) (d .before .pre .1), d .before .pre .0))
-    (c .before .before .put8 .ensures) (c .put82 .ensures))
+    let time = c .before .before in
+    let taken = time .before .before in
+    let a = taken .before .args in
+    let first = number-put 8 (a .t) (omega (arith, fits taken)) (time .put8 .ensures) in
+    let second = number-put idSize (idNumber (a .id)) (omega (arith, fits taken, first .size)) (c .put-id .ensures) in
+    row-given (a .at) (a .t) (idNumber (a .id)) (a .code) (a .k) (taken .if1 .taken)
+    (row-put (a .at * rowSize) (a .t) (idNumber (a .id)) (a .k) (omega arith) (fits taken) first second)
 
 returns-2 : tie.Need-returns-2
-returns-2 c = let a = c .before .args in row-not (a .rows .now) (a .at) (a .t) (a .id) (a .code) (a .k) (c .if1 .left)
+returns-2 c = let a = c .before .args in row-not (a .rows .now) (a .at) (a .t) (idNumber (a .id)) (a .code) (a .k) (c .if1 .left)
 
 pub add-row-spec : {M : Type 1} → statement M
 add-row-spec =
     tie.close
     (tie.spec
     (λ c. search needs)
-    put8-requires
+    (λ c κs. search needs)
     (λ c. search needs)
-    put8-requires-2
+    (λ c κs. search needs)
     (λ c. search needs)
     element-write-rows
     (λ c. search needs)

@@ -5,6 +5,7 @@ use native.Mathlib.Omega.{arith}
 use borrow.Author.Needs.{needs}
 use borrow.Author.Count.{below-none}
 use lib.ListN.{length, getD, length-set}
+use Rattle.rules.specs.Records.{mostEvents}
 use Rattle.calls.specs.Columns.{claimOf, Claims, nextOf}
 use Rattle.calls.specs.Settled.{Contested}
 use Rattle.calls.proofs.Fill.{fill-more}
@@ -15,7 +16,7 @@ use Rattle.calls.proofs.clock.claims_at.Tie as tie
 
 abbrev Inv-loop : tie.InvT-loop
 Inv-loop t limit begins ends carried held n claims₀ seen₀ shared₀ next₀ i₀ claims seen shared next i =
-    (i ≤ n) × (n ≤ 48) × Claims t i begins ends carried held claims × Covers claims i seen × Contested claims i shared × (next ≡ nextOf t limit i begins ends) × (next ≤ limit)
+    (i ≤ n) × (n ≤ mostEvents) × Claims t i begins ends carried held claims × Covers claims i seen × Contested claims i shared × (next ≡ nextOf t limit i begins ends) × (next ≤ limit)
 
 abbrev μ-loop : tie.MeasureT-loop
 μ-loop t limit begins ends carried held n claims₀ seen₀ shared₀ next₀ i₀ claims seen shared next i = n - i
@@ -40,8 +41,8 @@ loop-again c =
       },
       covers-more (l .claims) (l .i) m h (l .seen) (v .3),
       contested-more (l .claims) (l .i) m h (l .seen) (l .shared) (v .3) (v .4),
-      c .sooner .ensures ∙ ap (min (l .next)) (c .before .own-next .ensures) ∙ next-more (a .t) (a .limit) (l .next) (l .i) (a .begins .now) (a .ends .now) (v .5) (v .6),
-      omega (arith, c .sooner .ensures, v .6),
+      c .earlier .ensures ∙ ap (min (l .next)) (c .before .own-next .ensures) ∙ next-more (a .t) (a .limit) (l .next) (l .i) (a .begins .now) (a .ends .now) (v .5) (v .6),
+      omega (arith, c .earlier .ensures, v .6),
     )
 
 returns : tie.Need-returns Inv-loop μ-loop

@@ -9,6 +9,7 @@ use borrow.Author.Count.{below-none}
 use lib.Dec.{eqb, ltb}
 use lib.ListN.{length, getD, length-set}
 use lib.Pow.{shl-exact}
+use Rattle.rules.specs.Records.{mostEvents, mostControls}
 use Rattle.calls.specs.Columns.{codeOf, Codes, Gives}
 use Rattle.calls.proofs.Fill.{fill-more}
 use Rattle.calls.proofs.Controls.{gives-more}
@@ -28,7 +29,7 @@ small t begins end held kept =
     (either (eqb held 0 || not (eqb kept 0)) _ _ (omega arith) (omega arith))))
 
 abbrev Inv-loop : tie.InvT-loop
-Inv-loop t begins ends held kept n codes₀ given₀ i₀ codes given i = (i ≤ n) × (n ≤ 48) × Codes t i begins ends held kept codes × Gives i codes given
+Inv-loop t begins ends held kept n codes₀ given₀ i₀ codes given i = (i ≤ n) × (n ≤ mostEvents) × Codes t i begins ends held kept codes × Gives i codes given
 
 abbrev μ-loop : tie.MeasureT-loop
 μ-loop t begins ends held kept n codes₀ given₀ i₀ codes given i = n - i
@@ -43,7 +44,7 @@ loop-again c =
     let v = l .inv in
     let k = c .code-of .result in
     let h : l .i < length (l .codes) = omega (arith, v .1, v .2 .size) in
-    let low : k < 32 = rw (c .code-of .ensures) (small _ _ _ _ _) in (
+    let low : k < mostControls = rw (c .code-of .ensures) (small _ _ _ _ _) in (
       omega arith,
       v .1,
       record {

@@ -6,9 +6,10 @@ use native.Mathlib.Omega.{arith}
 use borrow.Author.Needs.{needs}
 use borrow.Author.Count.{below-none}
 use lib.ListN.{length, getD, length-set}
+use Rattle.rules.specs.Records.{mostEvents}
 use Rattle.rules.specs.Holding.{endOf}
 use Rattle.calls.specs.Slots.{entryOf}
-use Rattle.calls.specs.Columns.{Dated}
+use Rattle.calls.specs.Columns.{MomentColumns}
 use Rattle.calls.specs.Live.{slotsAt, Placed}
 use Rattle.calls.proofs.AtPlaces.{slot-there}
 use Rattle.calls.proofs.Fill.{fill-more}
@@ -17,7 +18,7 @@ use Rattle.calls.proofs.clock.columns_of.Tie as tie
 
 abbrev Inv-loop : tie.InvT-loop
 Inv-loop slots places n begins₀ ends₀ carried₀ held₀ i₀ begins ends carried held i =
-    (i ≤ n) × (n ≤ 48) × (length slots ≡ 48) × Placed n places × Dated i (slotsAt slots places) begins ends carried held
+    (i ≤ n) × (n ≤ mostEvents) × (length slots ≡ mostEvents) × Placed n places × MomentColumns i (slotsAt slots places) begins ends carried held
 
 abbrev μ-loop : tie.MeasureT-loop
 μ-loop slots places n begins₀ ends₀ carried₀ held₀ i₀ begins ends carried held i = n - i

@@ -1,6 +1,7 @@
 -- The loop has looked at the first i.
 use mathlib.Core.Path.{_≡_, refl, ap, _∙_}
 use Prim.Native.Nat.{_-_, _≤_, min}
+use Rattle.rules.specs.Records.{mostEvents}
 use native.Mathlib.Omega.{arith}
 use borrow.Author.Needs.{needs}
 use Rattle.calls.specs.Columns.{nextOf}
@@ -9,7 +10,7 @@ use Rattle.calls.proofs.clock.next_moment.Statement.{statement}
 use Rattle.calls.proofs.clock.next_moment.Tie as tie
 
 abbrev Inv-loop : tie.InvT-loop
-Inv-loop clock limit begins ends n next₀ i₀ next i = (i ≤ n) × (n ≤ 48) × (next ≡ nextOf clock limit i begins ends) × (next ≤ limit)
+Inv-loop clock limit begins ends n next₀ i₀ next i = (i ≤ n) × (n ≤ mostEvents) × (next ≡ nextOf clock limit i begins ends) × (next ≤ limit)
 
 abbrev μ-loop : tie.MeasureT-loop
 μ-loop clock limit begins ends n next₀ i₀ next i = n - i
@@ -24,8 +25,8 @@ loop-again c =
     let a = c .before .before .before .before .before .before .args in (
       omega arith,
       l .inv .1,
-      c .sooner .ensures ∙ ap (min (l .next)) (c .before .own-next .ensures) ∙ next-more (a .clock) (a .limit) (l .next) (l .i) (a .begins .now) (a .ends .now) (l .inv .2) (l .inv .3),
-      omega (arith, c .sooner .ensures, l .inv .3),
+      c .earlier .ensures ∙ ap (min (l .next)) (c .before .own-next .ensures) ∙ next-more (a .clock) (a .limit) (l .next) (l .i) (a .begins .now) (a .ends .now) (l .inv .2) (l .inv .3),
+      omega (arith, c .earlier .ensures, l .inv .3),
     )
 
 returns : tie.Need-returns Inv-loop μ-loop

@@ -1,68 +1,89 @@
 -- 11 if the id is not held. Else the event in its slot is stopped, and the answer says whether it was before.
 use mathlib.Core.Path.{_≡_, refl, sym, ap, _∙_}
-use mathlib.Core.Bool.{true, cond}
-use mathlib.Core.List.{[]}
-use Prim.Native.Nat.{_<_, _≤_}
+use mathlib.Core.Bool.{Bool, true, false, cond}
+use mathlib.Core.List.{List, []}
+use Prim.Native.Nat.{ℕ, _<_, _≤_}
 use native.Mathlib.Omega.{arith}
 use borrow.Author.Needs.{needs}
 use borrow.Author.Tests.{not-true, not-false}
-use lib.ListN.{set, length-set}
-use Rattle.rules.specs.Records.{mostEvents}
+use lib.ListN.{getD, set, length-set}
+use Rattle.rules.specs.declared.Entry.{Entry}
+use Rattle.rules.specs.Records.{mostEvents, idNumber}
 use Rattle.rules.specs.Refusals.{cancelChecks}
 use Rattle.rules.specs.Calls.{cancel, code, does, checks, call}
-use Rattle.calls.specs.Slots.{scheduleOf}
+use Rattle.calls.specs.declared.held.Head.{Head}
+use Rattle.calls.specs.declared.events.Place.{Place}
+use Rattle.calls.specs.Slots.{entryOf, slotState, scheduleOf, InUse, Ready}
+use Rattle.calls.specs.Found.{Found}
 use Rattle.calls.proofs.Slots.{within, slot-at, sound-of}
 use Rattle.calls.proofs.Placing.{stopped, put-over}
 use Rattle.calls.proofs.Acting.{refuses, does-it, found, inside}
 use Rattle.calls.proofs.events.cancel.Statement.{statement}
 use Rattle.calls.proofs.events.cancel.Tie as tie
 
+-- the event h in its slot is stopped there
+marks : {d : Head} {w : List (List ℕ)} {i : ℕ} {p : Place} → Ready d w → Found (slotState d w .entries) i p → p .held ≡ true
+    → (h : Entry) → h ≡ entryOf (getD w (p .at) []) → (x : List ℕ) → entryOf x ≡ stopped h → (m : Bool) → h .cancelled ≡ m
+    → record { number = 0; value = cond m (code 0) (code 6); state = scheduleOf d (set w (p .at) x); bytes = []; records = [] } ≡ call (scheduleOf d w) (cancel i)
+unfolding does checks cancelChecks
+marks {d} {w} {i} {p} r f b h is x e m q =
+    let l = inside r f b .0 in
+    let old = found r f in
+    let same = slot-at w (d .count) (within r) (p .at) l ∙ sym is in
+    let over = put-over w (d .count) (within r) (p .at) x l (sound-of r .ids) (e ∙ ap stopped (sym same)) in
+    rw (over, f .held b .1, ← q, ← same) (rw (old, b) at (sym (does-it r (cancel i) (rw (old, b)))))
+
 returns : tie.Need-returns
 unfolding checks cancelChecks
 returns c =
-    let start = c .before .before .before .before in
-    let place = c .before .before .place-of in
-    refuses (start .pre) (cancel (start .args .id .value)) 11 refl refl (rw (found (start .pre) (place .ensures), not-true (place .result .held) (c .if1 .taken)))
+    let place = c .before .before in
+    let start = place .before .before in
+    refuses (start .pre) (cancel (idNumber (start .args .id))) 11 refl refl (rw (found (start .pre) (place .place-of .ensures), not-true (place .place-of .result .held) (c .if1 .taken)))
 
-held : (c : tie.Else1) → c .before .before .place-of .result .held ≡ true
-held c = not-false (c .before .before .place-of .result .held) (c .if1 .left)
+-- the place that was found, and where the function begins
+abbrev placed : (c : tie.Else1) → tie.After-place-of
+placed c = c .before .before
 
-there : (c : tie.Else1) → let d = c .before .before .before .before .args .d in (c .before .before .place-of .result .at < d .count) × (d .count ≤ mostEvents)
-there c = inside (c .before .before .before .before .pre) (c .before .before .place-of .ensures) (held c)
+abbrev start : (c : tie.Else1) → tie.Start
+start c = placed c .before .before
 
-marked : (c : tie.After-slot-of) → let a = c .before .before .before .before .before .before .before .before .args in
-    let at = c .before .before .before .before .before .before .place-of .result .at in
-    record {
+held : (c : tie.Else1) → placed c .place-of .result .held ≡ true
+held c = not-false (placed c .place-of .result .held) (c .if1 .left)
+
+there : (c : tie.Else1) → let d = start c .args .d in (placed c .place-of .result .at < d .count) × (d .count ≤ mostEvents)
+there c = inside (start c .pre) (placed c .place-of .ensures) (held c)
+
+-- the event in the slot was read, and one with its mark set was made
+abbrev else : (c : tie.After-slot-of) → tie.Else1
+else c = c .before .before .before .before
+
+marked : (c : tie.After-slot-of) (m : Bool) → let a = start (else c) .args in
+    let at = placed (else c) .place-of .result .at in
+    c .before .before .entry-of .result .cancelled ≡ m
+    → record {
       number = 0;
-      value = cond (c .before .before .entry-of .result .cancelled) (code 0) (code 6);
+      value = cond m (code 0) (code 6);
       state = scheduleOf (a .d) (set (a .slots .now) at (c .slot-of .result));
       bytes = [];
       records = [];
     }
-    ≡ call (scheduleOf (a .d) (a .slots .now)) (cancel (a .id .value))
-unfolding does checks cancelChecks
-marked c =
-    let start = c .before .before .before .before .before .before .before .before in
-    let w = start .args .slots .now in
-    let n = start .args .d .count in
-    let r = start .pre in
-    let place = c .before .before .before .before .before .before .place-of in
-    let else = c .before .before .before .before in
-    let l = there else .0 in
-    let old = found r (place .ensures) in
-    let same = slot-at w n (within r) (place .result .at) l ∙ sym (c .before .before .entry-of .ensures) in
-    let over = put-over w n (within r) (place .result .at) (c .slot-of .result) l (sound-of r .ids) (c .slot-of .ensures ∙ ap stopped (sym same)) in
-    rw (over, place .ensures .held (held else) .1, ← same) (rw (old, held else) at (sym (does-it r (cancel (start .args .id .value)) (rw (old, held else)))))
+    ≡ call (scheduleOf (a .d) (a .slots .now)) (cancel (idNumber (a .id)))
+marked c m q =
+    let place = placed (else c) .place-of in
+    let old = c .before .before .entry-of in
+    marks (start (else c) .pre) (place .ensures) (held (else c)) (old .result) (old .ensures) (c .slot-of .result) (c .slot-of .ensures) m q
+
+-- as many slots as before
+used : (c : tie.After-slot-of) → let a = start (else c) .args in InUse (a .d .count) (set (a .slots .now) (placed (else c) .place-of .result .at) (c .slot-of .result))
+used c =
+    let begun = start (else c) in
+    record { few = begun .pre .used .few; size = length-set (begun .args .slots .now) _ _ ∙ begun .pre .used .size }
 
 returns-2 : tie.Need-returns-2
-returns-2 c =
-    let start = c .before .before .before .before .before .before .before .before .before in
-    record { size = length-set (start .args .slots .now) _ _ ∙ start .pre .size; count = start .pre .count; outcome = rw (c .if2 .taken) at (marked (c .before)) }
+returns-2 c = record { used = used (c .before); outcome = marked (c .before) true (c .if2 .taken) }
 
 returns-3 : tie.Need-returns-3
-returns-3 c =
-    let start = c .before .before .before .before .before .before .before .before .before in
-    record { size = length-set (start .args .slots .now) _ _ ∙ start .pre .size; count = start .pre .count; outcome = rw (c .if2 .left) at (marked (c .before)) }
+returns-3 c = record { used = used (c .before); outcome = marked (c .before) false (c .if2 .left) }
 
 pub cancel-spec : {M : Type 1} → statement M
 cancel-spec =
@@ -74,7 +95,7 @@ cancel-spec =
     (λ c. omega (arith, there c))
     (λ c κs. search needs)
     (λ c κs. search needs)
-    (λ c. omega (arith, there (c .before .before .before .before)))
-    (λ c. omega (arith, there (c .before .before .before .before)))
+    (λ c. omega (arith, there (else c)))
+    (λ c. omega (arith, there (else c)))
     returns-2
     returns-3)

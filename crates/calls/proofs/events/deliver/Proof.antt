@@ -1,9 +1,9 @@
 -- A number that applies is given. Else the event is held already, and nothing changes, or it is taken in.
 use mathlib.Core.Path.{_≡_, refl, sym, ap, _∙_}
 use mathlib.Core.Bool.{Bool, true, false, cond}
-use mathlib.Core.List.{[]}
+use mathlib.Core.List.{List, []}
 use mathlib.Core.Option.{Option, none, some}
-use Prim.Native.Nat.{_<_, _≤_, min}
+use Prim.Native.Nat.{ℕ, _<_, min}
 use native.Mathlib.Omega.{arith}
 use borrow.Author.Needs.{needs}
 use borrow.Author.Tests.{ne-eqb}
@@ -12,9 +12,12 @@ use Rattle.rules.specs.declared.Event.{Event}
 use Rattle.rules.specs.declared.Entry.{Entry}
 use Rattle.rules.specs.Records.{State, mostEvents, idOf, lastClock, noEntry}
 use Rattle.rules.specs.Period.{periodOf}
-use Rattle.rules.specs.Refusals.{find}
-use Rattle.rules.specs.Calls.{Done, deliver, entry, received, receive, does, accepted, call}
-use Rattle.calls.specs.Slots.{stateOf, scheduleOf}
+use Rattle.rules.specs.Refusals.{firstOf, find}
+use Rattle.rules.specs.Calls.{Done, deliver, entry, received, receive, checks, does, accepted, call}
+use Rattle.calls.specs.declared.held.Head.{Head}
+use Rattle.calls.specs.declared.events.Place.{Place}
+use Rattle.calls.specs.Slots.{slotState, scheduleOf, Ready}
+use Rattle.calls.specs.Found.{Found, CanOpen}
 use Rattle.calls.proofs.Slots.{count-of, sound-of}
 use Rattle.calls.proofs.Placing.{put-in, put-in-long}
 use Rattle.calls.proofs.Acting.{refuses, does-it, room, found}
@@ -25,64 +28,79 @@ use Rattle.calls.proofs.events.deliver.Tie as tie
 abbrev delivered : State → Event → Option Entry → Done
 delivered s e old = record { state = receive s e old; value = received old; bytes = []; records = [] }
 
+-- past every number, what the call does with what is held
+taken-in : {d : Head} {w : List (List ℕ)} {p : Place} (e : Event) → Ready d w → Found (slotState d w .entries) (idOf e) p → firstOf (checks (slotState d w) (deliver e)) ≡ 0
+    → (b : Bool) → p .held ≡ b → accepted (delivered (slotState d w) e (cond b (some (getD (slotState d w .entries) (p .at) noEntry)) none)) ≡ call (scheduleOf d w) (deliver e)
+unfolding does
+taken-in e r f z b q = rw (found r f, q) at (sym (does-it r (deliver e) z))
+
+not-held : {d : Head} {w : List (List ℕ)} {i : ℕ} {p : Place} → Ready d w → Found (slotState d w .entries) i p → p .held ≡ false → find i (slotState d w .entries) ≡ none
+not-held r f q = rw q at (found r f)
+
+-- the place that was found, and where the function begins
+abbrev placed : (c : tie.After-number) → tie.After-place-of
+placed c = c .before .before
+
+abbrev start : (c : tie.After-number) → tie.Start
+start c = placed c .before .before
+
 returns : tie.Need-returns
 returns c =
-    let start = c .before .before .before .before .before in
+    let begun = start (c .before) in
     let n = c .before .number in
-    refuses (start .pre) (deliver (start .args .e)) (n .result) (ne-eqb (n .result) 0 (c .if1 .taken)) refl (n .ensures)
+    refuses (begun .pre) (deliver (begun .args .e)) (n .result) (ne-eqb (n .result) 0 (c .if1 .taken)) refl (n .ensures)
 
--- past every number, what the call does with what is held
-acts : (c : tie.Else1) (b : Bool) → let a = c .before .before .before .before .before .args in let p = c .before .before .before .place-of .result in
-    let s = stateOf (a .d) (a .slots .now) in
+acts : (c : tie.Else1) (b : Bool) → let a = start (c .before) .args in let p = placed (c .before) .place-of .result in
+    let s = slotState (a .d) (a .slots .now) in
     p .held ≡ b → accepted (delivered s (a .e) (cond b (some (getD (s .entries) (p .at) noEntry)) none)) ≡ call (scheduleOf (a .d) (a .slots .now)) (deliver (a .e))
-unfolding does
 acts c b q =
-    let start = c .before .before .before .before .before in
-    rw (found (start .pre) (c .before .before .before .place-of .ensures), q) at (sym (does-it (start .pre) (deliver (start .args .e)) (sym (c .before .number .ensures) ∙ c .if1 .left)))
+    let begun = start (c .before) in
+    taken-in (begun .args .e) (begun .pre) (placed (c .before) .place-of .ensures) (sym (c .before .number .ensures) ∙ c .if1 .left) b q
 
 returns-2 : tie.Need-returns-2
-returns-2 c =
-    let start = c .before .before .before .before .before .before in
-    record { size = start .pre .size; count = start .pre .count; outcome = acts (c .before) true (c .if2 .taken) }
+returns-2 c = record { used = start (c .before .before) .pre .used; outcome = acts (c .before) true (c .if2 .taken) }
 
 -- what is not held is taken in at its place, and there is room
-free : (c : tie.Else2) → let a = c .before .before .before .before .before .before .args in find (idOf (a .e)) (stateOf (a .d) (a .slots .now) .entries) ≡ none
-free c = rw (c .if2 .left) at (found (c .before .before .before .before .before .before .pre) (c .before .before .before .before .place-of .ensures))
+free : (c : tie.Else2) → let a = start (c .before .before) .args in find (idOf (a .e)) (slotState (a .d) (a .slots .now) .entries) ≡ none
+free c = let number = c .before .before in not-held (start number .pre) (placed number .place-of .ensures) (c .if2 .left)
 
-fits : (c : tie.Else2) → let a = c .before .before .before .before .before .before .args in
-    (c .before .before .before .before .place-of .result .at ≤ a .d .count) × (a .d .count < mostEvents)
+fits : (c : tie.Else2) → let a = start (c .before .before) .args in CanOpen (placed (c .before .before) .place-of .result .at) (a .d .count) (a .slots .now)
 fits c =
-    let start = c .before .before .before .before .before .before in
-    let at = c .before .before .before .before .place-of .ensures .placed .within in
-    (omega (arith, count-of (start .pre)), room (start .pre) (start .args .e) (sym (c .before .before .number .ensures) ∙ c .before .if1 .left) (free c))
+    let number = c .before .before in
+    let begun = start number in
+    let at = placed number .place-of .ensures .placed .within in
+    record {
+      within = omega (arith, count-of (begun .pre));
+      room = room (begun .pre) (begun .args .e) (sym (number .number .ensures) ∙ c .before .if1 .left) (free c);
+      size = begun .pre .used .size;
+    }
 
 put-in-requires : tie.Need-put-in-requires
-put-in-requires c κs =
-    let else = c .before .before .before in
-    (fits else .0, fits else .1, c .before .before .before .before .before .before .before .before .before .pre .size)
+put-in-requires c κs = fits (c .before .before .before)
 
 returns-3 : tie.Need-returns-3
 returns-3 c =
-    let start = c .before .before .before .before .before .before .before .before .before .before .before in
-    let w = start .args .slots .now in
-    let d = start .args .d in
-    let v = start .args .e in
-    let else = c .before .before .before .before .before in
-    let place = c .before .before .before .before .before .before .before .before .before .place-of in
-    let period = c .before .before .before .before .period in
-    let slot = c .before .before .before .slot-of in
-    let left = c .before .put-in .ensures in
-    let some = fits else in
-    let below : d .count < mostEvents = some .1 in
-    let clock : min (d .clock) lastClock ≡ d .clock = omega (arith, sound-of (start .pre) .clock) in
-    let new : record { event = v; begins = period .result .start; held = 0; cancelled = false } ≡ entry (d .clock) v =
-    ap (λ t. record { event = v; begins = t .start; held = 0; cancelled = false }) (period .ensures ∙ ap (periodOf v) clock) in
+    let put = c .before in
+    let slotted = put .before .before in
+    let timed = slotted .before in
+    let new = timed .before in
+    let number = new .before .before in
+    let begun = start number in
+    let w = begun .args .slots .now in
+    let d = begun .args .d in
+    let v = begun .args .e in
+    let place = placed number .place-of in
+    let slot = slotted .slot-of in
+    let opens = fits new in
+    let below : d .count < mostEvents = opens .room in
+    let clock : min (d .clock) lastClock ≡ d .clock = omega (arith, sound-of (begun .pre) .clock) in
+    let is-new : record { event = v; begins = timed .period .result .start; held = 0; cancelled = false } ≡ entry (d .clock) v =
+    ap (λ t. record { event = v; begins = t .start; held = 0; cancelled = false }) (timed .period .ensures ∙ ap (periodOf v) clock) in
     record {
-      size = rw left (put-in-long w (d .count) (omega (arith, start .pre .size)) (slot .result) (place .result .at) (some .0) ∙ start .pre .size);
-      count = omega arith;
+      used = record { few = omega arith; size = rw (put .put-in .ensures) (put-in-long w (d .count) (omega (arith, opens .size)) (slot .result) (place .result .at) (opens .within) ∙ opens .size) };
       outcome =
-          rw (left, put-in w (d .count) (omega (arith, start .pre .size)) (entry (d .clock) v) (slot .result) (place .result .at) (slot .ensures ∙ new) (place .ensures .placed) (free else))
-          (acts (else .before) false (else .if2 .left));
+          rw (put .put-in .ensures, put-in w (d .count) (omega (arith, opens .size)) (entry (d .clock) v) (slot .result) (place .result .at) (slot .ensures ∙ is-new) (place .ensures .placed) (free new))
+          (acts (new .before) false (new .if2 .left));
     }
 
 pub deliver-spec : {M : Type 1} → statement M

@@ -17,7 +17,7 @@ abbrev μ-loop : tie.MeasureT-loop
 μ-loop slots₀ n at slot j₀ slots j = j
 
 loop-holds : tie.Need-loop-holds Inv-loop μ-loop
-loop-holds c = (omega arith, omega arith, c .pre .1, open-none (c .args .slots .now) (c .args .n) (omega arith))
+loop-holds c = (omega arith, omega arith, c .pre .room, open-none (c .args .slots .now) (c .args .n) (omega arith))
 
 loop-again : tie.Need-loop-again Inv-loop μ-loop
 loop-again c =

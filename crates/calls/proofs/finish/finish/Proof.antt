@@ -5,41 +5,44 @@ use Prim.Native.Nat.{_-_, _≤_}
 use native.Mathlib.Omega.{arith}
 use borrow.Author.Needs.{needs}
 use Rattle.rules.specs.Holding.{endOf}
-use Rattle.calls.proofs.Finishing.{Moved, none-moved, dropped, kept, stayed, all-moved}
+use Rattle.calls.proofs.Finishing.{ToFront, none-gathered, dropped, kept, stayed, all-gathered}
 use Rattle.calls.proofs.finish.finish.Statement.{statement}
 use Rattle.calls.proofs.finish.finish.Tie as tie
 
 abbrev Inv-loop : tie.InvT-loop
-Inv-loop slots₀ n to k₀ i₀ slots k i = (i ≤ n) × Moved to i slots₀ slots k
+Inv-loop slots₀ n to k₀ i₀ slots k i = (i ≤ n) × ToFront to i slots₀ slots k
 
 abbrev μ-loop : tie.MeasureT-loop
 μ-loop slots₀ n to k₀ i₀ slots k i = n - i
 
 loop-holds : tie.Need-loop-holds Inv-loop μ-loop
-loop-holds c = (omega arith, none-moved (c .args .to) _ (c .pre .1))
+loop-holds c = (omega arith, none-gathered (c .args .to) _ (c .pre .size))
 
 loop-again : tie.Need-loop-again Inv-loop μ-loop
 loop-again c =
-    let start = c .before .before .before .before .before .before .before .before in
-    let l = c .before .before .before .before .before .before .before .loop in
+    let ended = c .before .before in
+    let read = ended .before .before in
+    let at = read .before .before .before in
+    let l = at .loop in
+    let start = at .before in
     let a = start .args in
-    let end = ap (λ x. x .time) (c .before .before .effective-end .ensures) ∙ ap endOf (c .before .before .before .before .entry-of .ensures) in
+    let end = ap (λ x. x .time) (ended .effective-end .ensures) ∙ ap endOf (read .entry-of .ensures) in
     ⊎-elim
     (λ w. (
       omega arith,
       rw (w .2, w .3)
           (⊎-elim
-          (λ u. rw (u .1) (kept (a .to) (l .i) (a .slots .now) (l .slots) (l .k) (l .inv .1) (omega arith) (start .pre .1) (rw end at (w .0 .taken))))
-          (λ u. rw (u .1) (stayed (a .to) (l .i) (a .slots .now) (l .slots) (l .k) (l .inv .1) (omega arith) (start .pre .1) (u .0 .left) (rw end at (w .0 .taken))))
+          (λ u. rw (u .1) (kept (a .to) (l .i) (a .slots .now) (l .slots) (l .k) (l .inv .1) (omega arith) (start .pre .size) (rw end at (w .0 .taken))))
+          (λ u. rw (u .1) (stayed (a .to) (l .i) (a .slots .now) (l .slots) (l .k) (l .inv .1) (omega arith) (start .pre .size) (u .0 .left) (rw end at (w .0 .taken))))
           (w .1 .came)),
     ))
-    (λ w. (omega arith, rw (w .1, w .2) (dropped (a .to) (l .i) (a .slots .now) (l .slots) (l .k) (l .inv .1) (omega arith) (start .pre .1) (rw end at (w .0 .left)))))
+    (λ w. (omega arith, rw (w .1, w .2) (dropped (a .to) (l .i) (a .slots .now) (l .slots) (l .k) (l .inv .1) (omega arith) (start .pre .size) (rw end at (w .0 .left)))))
     (c .if1 .came)
 
 returns : tie.Need-returns Inv-loop μ-loop
 returns c =
     let z : c .before .loop .i ≡ c .before .before .args .n = omega arith in
-    all-moved (rw z at (c .before .loop .inv .1))
+    all-gathered (c .before .before .pre .few) (rw z at (c .before .loop .inv .1))
 
 pub finish-spec : {M : Type 1} → statement M
 finish-spec =

@@ -5,21 +5,29 @@ use Rattle.calls.proofs.lines.act_on.Statement.{statement}
 use Rattle.calls.proofs.lines.act_on.Tie as tie
 
 returns : tie.Need-returns
-returns c = rw (c .before .before .before .f .given .1) (on-event _ (c .before .before .before .before .before .pre .1) (c .deliver .ensures))
+returns c =
+    let read = c .before .before .before in
+    rw (read .f .given .1) (on-event _ (read .before .before .pre .long) (c .deliver .ensures))
 
 returns-2 : tie.Need-returns-2
-returns-2 c = rw (c .before .before .before .f2 .given .1) (on-cancel _ (c .before .before .before .before .before .pre .1) (c .cancel .ensures))
+returns-2 c =
+    let read = c .before .before .before in
+    rw (read .f2 .given .1) (on-cancel _ (read .before .before .pre .long) (c .cancel .ensures))
 
 returns-3 : tie.Need-returns-3
 returns-3 c = rw (c .before .before .before .before .f3 .given .1) (on-clock _ (c .pass .ensures))
 
 returns-4 : tie.Need-returns-4
-returns-4 c = rw (c .before .before .f4 .given .1) (on-program _ _ _ (c .before .before .before .before .pre .1) (c .add-program .ensures _ (c .before .before .before .before .pre .0)))
+returns-4 c =
+    let read = c .before .before in
+    let pre = read .before .before .pre in
+    rw (read .f4 .given .1) (on-program _ _ _ (pre .long) (c .add-program .ensures _ (pre .ready)))
 
 returns-5 : tie.Need-returns-5
 returns-5 c =
-    let pre = c .before .before .before .before .before .pre in
-    rw (c .before .before .before .f5 .given .1) (on-ask _ (pre .1) (record { size = pre .0 .size; count = pre .0 .count; outcome = c .ask .ensures }))
+    let read = c .before .before .before in
+    let pre = read .before .before .pre in
+    rw (read .f5 .given .1) (on-ask _ (pre .long) (record { used = pre .ready .used; outcome = c .ask .ensures }))
 
 pub act-on-spec : {M : Type 1} → statement M
 act-on-spec =

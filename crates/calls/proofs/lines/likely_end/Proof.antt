@@ -7,13 +7,13 @@ use Rattle.calls.proofs.lines.likely_end.Statement.{statement}
 use Rattle.calls.proofs.lines.likely_end.Tie as tie
 
 returns : tie.Need-returns
-returns c = (omega arith, omega arith, inr (omega arith, omega arith))
+returns c = record { behind = omega arith; within = omega arith; feed = inr (omega arith, omega arith) }
 
 returns-2 : tie.Need-returns-2
-returns-2 c = (omega arith, omega arith, inl refl)
+returns-2 c = record { behind = omega arith; within = omega arith; feed = inl refl }
 
 returns-3 : tie.Need-returns-3
-returns-3 c = (omega arith, omega arith, inl refl)
+returns-3 c = record { behind = omega arith; within = omega arith; feed = inl refl }
 
 pub likely-end-spec : {M : Type 1} → statement M
 likely-end-spec =

@@ -8,14 +8,18 @@ use Rattle.calls.proofs.lines.next_line.Tie as tie
 
 returns : tie.Need-returns
 returns c =
-    let start = c .before .before .before .before .before .before in
-    let d = c .before .before .decode in
-    let e = c .before .before .before .before .likely-end .ensures in
-    (end-of-frame (start .args .text .now) (start .args .from) _ (e .0) (e .2) _ (sym (d .ensures) ∙ c .enum-told .given .1), d .ensures)
+    let decoded = c .before .before in
+    let likely = decoded .before .before in
+    let start = likely .before .before in
+    let e = likely .likely-end .ensures in
+    let line = decoded .decode .ensures in
+    record { end = end-of-frame (start .args .text .now) (start .args .from) _ (e .behind) (e .feed) _ (sym line ∙ c .enum-told .given .1); line = line }
 
 part-decode-end-2 : tie.Need-part-decode-end-2
 part-decode-end-2 c =
-    let start = c .before .before .before .before .before .before .before in
+    let decoded = c .before .before .before in
+    let likely = decoded .before .before in
+    let start = likely .before .before in
     omega (arith, c .end-of .ensures, end-within (start .args .text .now) (start .args .from) (start .pre))
 
 pub next-line-spec : {M : Type 1} → statement M
@@ -35,4 +39,4 @@ next-line-spec =
     (λ c. search needs)
     part-decode-end-2
     (λ c κs. search needs)
-    (λ c. (c .before .before .end-of .ensures, c .decode2 .ensures)))
+    (λ c. record { end = c .before .before .end-of .ensures; line = c .decode2 .ensures }))

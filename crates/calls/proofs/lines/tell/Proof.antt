@@ -8,18 +8,22 @@ use Rattle.calls.proofs.lines.tell.Tie as tie
 
 returns : tie.Need-returns
 returns c =
-    let start = c .before .before .before .before .before .before .before in
+    let refused = c .before .before in
+    let bad = refused .before .before in
+    let start = bad .before .before .before in
     let a = start .args in
     let pre = start .pre in
-    rw (c .before .before .before .before .enum-told .given .1)
-    (says-bad (scheduleOf (a .d) (a .slots .now)) (pre .1 .1) _ (pre .0 .size) (pre .0 .count) (pre .1 .0) refl (c .before .before .refused .ensures))
+    rw (bad .enum-told .given .1) (says-bad (scheduleOf (a .d) (a .slots .now)) (pre .room) _ (pre .lent .ready .used) (pre .lent .long) refl (refused .refused .ensures))
 
 returns-2 : tie.Need-returns-2
 returns-2 c =
-    let start = c .before .before .before .before .before .before .before .before .before .before .before .before .before .before in
+    let told = c .before .before in
+    let lent = told .before .before .before in
+    let acted = lent .before .before in
+    let good = acted .before .before .before .before in
+    let start = good .before .before .before in
     let a = start .args in
-    rw (c .before .before .before .before .before .before .before .before .before .before .before .line .given .1)
-    (says-good (scheduleOf (a .d) (a .slots .now)) (start .pre .1 .1) _ _ (c .before .before .before .before .before .before .before .act-on .ensures) _ (c .before .before .told .ensures))
+    rw (good .line .given .1) (says-good (scheduleOf (a .d) (a .slots .now)) (start .pre .room) _ _ (acted .act-on .ensures) _ (told .told .ensures))
 
 pub tell-spec : {M : Type 1} → statement M
 tell-spec =

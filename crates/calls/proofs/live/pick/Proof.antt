@@ -1,11 +1,10 @@
 -- The loop has looked at the first i slots.
-use mathlib.Core.Path.{_≡_}
+use mathlib.Core.Path.{_≡_, _∙_}
 use mathlib.Core.Logic.{⊎-elim}
 use Prim.Native.Nat.{_-_, _≤_}
 use native.Mathlib.Omega.{arith}
 use borrow.Author.Needs.{needs}
-use Rattle.calls.specs.Slots.{entryOf}
-use Rattle.calls.specs.Live.{Picked}
+use Rattle.calls.specs.Live.{liveOf, Picked}
 use Rattle.calls.proofs.Picking.{none-picked, passed-over, picked}
 use Rattle.calls.proofs.live.pick.Statement.{statement}
 use Rattle.calls.proofs.live.pick.Tie as tie
@@ -20,11 +19,13 @@ loop-holds : tie.Need-loop-holds Inv-loop μ-loop
 loop-holds c = (omega arith, none-picked (c .args .clock) (c .args .to) _ _ (c .pre .2))
 
 loop-again : tie.Need-loop-again Inv-loop μ-loop
-unfolding entryOf
 loop-again c =
-    let l = c .before .before .before .before .before .before .loop in
-    let a = c .before .before .before .before .before .before .before .args in
-    let e = c .before .is-live .ensures in
+    let read = c .before .before in
+    let first = read .before .before in
+    let at = first .before .before in
+    let l = at .loop in
+    let a = at .before .args in
+    let e = c .before .is-live .ensures ∙ (λ i. liveOf (a .clock) (a .to) (first .is-cancelled-at .ensures i) (read .before .begins-at .ensures i) (read .held-at .ensures i)) in
     ⊎-elim
     (λ w. (omega arith, rw (w .1, w .2) (picked (a .clock) (a .to) (l .i) (a .slots .now) (l .places) (l .m) (l .inv .1) e (w .0 .taken) (omega arith))))
     (λ w. (omega arith, rw (w .1, w .2) (passed-over (a .clock) (a .to) (l .i) (a .slots .now) (l .places) (l .m) (l .inv .1) e (w .0 .left))))
@@ -42,16 +43,9 @@ pick-spec =
     Inv-loop
     μ-loop
     loop-holds
-    (λ c. search needs)
-    (λ c. search needs)
-    (λ c. search needs)
-    (λ c. search needs)
-    (λ c. search needs)
-    (λ c. search needs)
-    (λ c. search needs)
-    (λ c. search needs)
-    (λ c. search needs)
-    (λ c. search needs)
+    (λ c κs. search needs)
+    (λ c κs. search needs)
+    (λ c κs. search needs)
     (λ c κs. search needs)
     (λ c. search needs)
     (λ c. search needs)

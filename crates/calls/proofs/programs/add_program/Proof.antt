@@ -1,5 +1,6 @@
 -- Each return has the tests that led there; an accepted program is the schedule with one place set, and no slot changes.
 use mathlib.Core.Path.{refl, sym}
+use Rattle.rules.specs.Records.{lastProgram}
 use borrow.Author.Needs.{needs}
 use borrow.Author.Tests.{lt-ltb, le-ltb}
 use Rattle.rules.specs.Refusals.{programChecks}
@@ -13,30 +14,35 @@ returns : tie.Need-returns
 unfolding checks programChecks
 returns c w r =
     let a = c .before .args in
-    refuses r (addProgram (a .number) (a .primacy) (a .defaults)) 3 refl refl (rw (lt-ltb 7 (a .number) (c .if1 .taken)))
+    refuses r (addProgram (a .number) (a .primacy) (a .defaults)) 3 refl refl (rw (lt-ltb lastProgram (a .number) (c .if1 .taken)))
 
 returns-2 : tie.Need-returns-2
 unfolding checks programChecks
 returns-2 c w r =
     let a = c .before .before .before .args in
-    refuses r (addProgram (a .number) (a .primacy) (a .defaults)) 4 refl refl (rw (le-ltb 7 (a .number) (c .before .before .if1 .left), c .if2 .taken))
+    refuses r (addProgram (a .number) (a .primacy) (a .defaults)) 4 refl refl (rw (le-ltb lastProgram (a .number) (c .before .before .if1 .left), c .if2 .taken))
 
 returns-3 : tie.Need-returns-3
 unfolding checks programChecks
 returns-3 c w r =
-    let a = c .before .before .before .before .before .before .args in
+    let usable = c .before .before in
+    let free = usable .before in
+    let numbered = free .before .before in
+    let a = numbered .before .args in
     refuses r (addProgram (a .number) (a .primacy) (a .defaults)) 5 refl refl
-    (rw (le-ltb 7 (a .number) (c .before .before .before .before .before .if1 .left), c .before .before .before .if2 .left, arm _ _ _ (c .enum-told2 .given .1) (c .before .before .of .ensures)))
+    (rw (le-ltb lastProgram (a .number) (numbered .if1 .left), free .if2 .left, arm _ _ _ (c .enum-told2 .given .1) (usable .of .ensures)))
 
 returns-4 : tie.Need-returns-4
 unfolding checks programChecks does
 returns-4 c w r =
-    let a = c .before .before .before .before .before .before .args in
+    let usable = c .before .before in
+    let free = usable .before in
+    let numbered = free .before .before in
+    let a = numbered .before .args in
     record {
-      size = r .size;
-      count = r .count;
+      used = r .used;
       outcome = sym (does-it r (addProgram (a .number) (a .primacy) (a .defaults))
-          (rw (le-ltb 7 (a .number) (c .before .before .before .before .before .if1 .left), c .before .before .before .if2 .left, arm _ _ _ (c .enum-told .given .1) (c .before .before .of .ensures))));
+          (rw (le-ltb lastProgram (a .number) (numbered .if1 .left), free .if2 .left, arm _ _ _ (c .enum-told .given .1) (usable .of .ensures))));
     }
 
 pub add-program-spec : {M : Type 1} → statement M

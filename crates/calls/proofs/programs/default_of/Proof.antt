@@ -5,6 +5,7 @@ use mathlib.Core.Bool.{false}
 use native.Mathlib.Omega.{arith}
 use borrow.Author.Needs.{needs}
 use lib.ListN.{length, drop}
+use Rattle.rules.specs.Records.{mostPrograms, mostControls}
 use Rattle.rules.specs.Calls.{bestDefault}
 use Rattle.calls.specs.Best.{ranked}
 use Rattle.calls.proofs.Asking.{default-next, default-none, default-found, default-not}
@@ -12,14 +13,14 @@ use Rattle.calls.proofs.programs.default_of.Statement.{statement}
 use Rattle.calls.proofs.programs.default_of.Tie as tie
 
 abbrev Inv-loop : tie.InvT-loop
-Inv-loop control programs best₀ i₀ best i = (i ≤ 8) × (length programs ≡ 8) × (control < 32) × (ranked best ≡ bestDefault control i (drop i programs))
+Inv-loop control programs best₀ i₀ best i = (i ≤ mostPrograms) × (length programs ≡ mostPrograms) × (control < mostControls) × (ranked best ≡ bestDefault control i (drop i programs))
 
 abbrev μ-loop : tie.MeasureT-loop
 μ-loop control programs best₀ i₀ best i = i
 
 loop-holds : tie.Need-loop-holds Inv-loop μ-loop
 loop-holds c =
-    let l : length (c .args .t1) ≡ 8 = c .good .0 .1 .0 .1 in
+    let l : length (c .args .t1) ≡ mostPrograms = c .good .0 .1 .0 .1 in
     (omega arith, l, c .pre, default-none (c .args .control) (c .args .t1) (record { found = false; number = 0; primacy = 0 }) refl (l))
 
 loop-again : tie.Need-loop-again Inv-loop μ-loop
@@ -33,14 +34,14 @@ returns c =
     let l = c .before .before .loop in
     let a = c .before .before .before .args in
     let z : l .i ≡ 0 = omega arith in
-    (refl, default-found (a .control) (a .t1) (l .best) (rw z at (l .inv .3)) (c .if1 .taken))
+    record { number = refl; value = default-found (a .control) (a .t1) (l .best) (rw z at (l .inv .3)) (c .if1 .taken) }
 
 returns-2 : tie.Need-returns-2 Inv-loop μ-loop
 returns-2 c =
     let l = c .before .before .loop in
     let a = c .before .before .before .args in
     let z : l .i ≡ 0 = omega arith in
-    (refl, default-not (a .control) (a .t1) (l .best) (rw z at (l .inv .3)) (c .if1 .left))
+    record { number = refl; value = default-not (a .control) (a .t1) (l .best) (rw z at (l .inv .3)) (c .if1 .left) }
 
 pub default-of-spec : {M : Type 1} → statement M
 default-of-spec =

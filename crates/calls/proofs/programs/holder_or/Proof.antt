@@ -1,13 +1,13 @@
 -- The loop has passed over the first i.
-use mathlib.Core.Path.{_≡_, refl, sym, _∙_}
+use mathlib.Core.Path.{_≡_, refl, sym, ap, _∙_}
 use Prim.Native.Nat.{_-_, _≤_, _<_}
 use mathlib.Core.List.{map}
 use native.Mathlib.Omega.{arith}
 use borrow.Author.Needs.{needs}
-use lib.ListN.{length, take, drop}
-use Rattle.rules.specs.Records.{mostEvents}
-use Rattle.rules.specs.Calls.{valueOf, holderIn}
-use Rattle.calls.specs.Slots.{entryOf}
+use lib.ListN.{take, drop}
+use Rattle.rules.specs.Records.{idNumber, mostControls}
+use Rattle.rules.specs.Calls.{valueOf, holder, holderIn}
+use Rattle.calls.specs.Slots.{entryOf, InUse}
 use Rattle.calls.proofs.Asking.{held-here, not-here, none-holds}
 use Rattle.calls.proofs.programs.holder_or.Statement.{statement}
 use Rattle.calls.proofs.programs.holder_or.Tie as tie
@@ -15,21 +15,25 @@ use Rattle.calls.proofs.programs.holder_or.Tie as tie
 abbrev Inv-loop : tie.InvT-loop
 Inv-loop slots n control other i₀ i =
     let hs = map entryOf (take n slots) in
-    (i ≤ n) × (n ≤ mostEvents) × (length slots ≡ mostEvents) × (control < 32) × (holderIn control hs (valueOf other) ≡ holderIn control (drop i hs) (valueOf other))
+    (i ≤ n) × InUse n slots × (control < mostControls) × (holderIn control hs (valueOf other) ≡ holderIn control (drop i hs) (valueOf other))
 
 abbrev μ-loop : tie.MeasureT-loop
 μ-loop slots n control other i₀ i = n - i
 
 loop-holds : tie.Need-loop-holds Inv-loop μ-loop
-loop-holds c = (omega arith, c .pre .1 .0 .0, c .pre .1 .0 .1, c .pre .0, refl)
+loop-holds c = (omega arith, c .pre .used, c .pre .control, refl)
 
 returns : tie.Need-returns Inv-loop μ-loop
 returns c =
-    let l = c .before .before .before .before .loop in
-    let a = c .before .before .before .before .before .args in (
-      refl,
-      held-here (a .control) (a .n) (a .slots .now) (valueOf (a .other)) (omega arith) (l .i) (omega arith) (sym (c .before .before .is-holder .ensures) ∙ c .before .if1 .taken) ∙ sym (l .inv .4),
-    )
+    let holds = c .before .before in
+    let at = holds .before .before in
+    let l = at .loop in
+    let a = at .before .args in
+    record {
+      number = refl;
+      value = ap (λ x. holder (idNumber x)) (c .id-at .ensures)
+          ∙ held-here (a .control) (a .n) (a .slots .now) (valueOf (a .other)) (omega arith) (l .i) (omega arith) (sym (holds .is-holder .ensures) ∙ c .before .if1 .taken) ∙ sym (l .inv .3);
+    }
 
 loop-again : tie.Need-loop-again Inv-loop μ-loop
 loop-again c =
@@ -38,17 +42,16 @@ loop-again c =
       omega arith,
       l .inv .1,
       l .inv .2,
-      l .inv .3,
-      l .inv .4 ∙ not-here (a .control) (a .n) (a .slots .now) (valueOf (a .other)) (omega arith) (l .i) (omega arith) (sym (c .before .is-holder .ensures) ∙ c .if1 .left),
+      l .inv .3 ∙ not-here (a .control) (a .n) (a .slots .now) (valueOf (a .other)) (omega arith) (l .i) (omega arith) (sym (c .before .is-holder .ensures) ∙ c .if1 .left),
     )
 
 returns-2 : tie.Need-returns-2 Inv-loop μ-loop
 returns-2 c =
     let l = c .before .loop in
     let a = c .before .before .args in
-    (c .before .before .pre .1 .1, none-holds (a .control) (a .n) (a .slots .now) (valueOf (a .other)) (omega arith) (l .i) (omega arith) ∙ sym (l .inv .4))
+    record { number = c .before .before .pre .other; value = none-holds (a .control) (a .n) (a .slots .now) (valueOf (a .other)) (omega arith) (l .i) (omega arith) ∙ sym (l .inv .3) }
 
 pub holder-or-spec : {M : Type 1} → statement M
 holder-or-spec =
     tie.close
-    (tie.spec Inv-loop μ-loop loop-holds (λ c κs. search needs) (λ c. search needs) (λ c. search needs) (λ c. search needs) returns (λ c. search needs) (λ c. search needs) loop-again returns-2)
+    (tie.spec Inv-loop μ-loop loop-holds (λ c κs. search needs) (λ c κs. search needs) returns (λ c. search needs) (λ c. search needs) loop-again returns-2)

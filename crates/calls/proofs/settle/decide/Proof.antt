@@ -9,15 +9,16 @@ use lib.ListN.{getD}
 use native.Mathlib.Omega.{arith}
 use mathlib.Core.Path.{_≡_}
 use mathlib.Core.Logic.{⊎-elim}
+use Rattle.rules.specs.Records.{mostPrograms}
 use Rattle.calls.specs.Slots.{entryOf}
 use Rattle.calls.specs.Columns.{primaciesOf, createdOf, idsOf}
 use Rattle.calls.specs.Settled.{rankAt}
 use Rattle.calls.proofs.Columned.{ids-long}
 use Rattle.calls.proofs.AtPlaces.{as-many, slot-there, better-there}
-use Rattle.calls.proofs.Deciding.{Best, none, skip, first, ahead, behind, decided, ascending}
+use Rattle.calls.proofs.Deciding.{BestSoFar, none, skip, first, ahead, behind, decided, ascending}
 
 abbrev Inv-loop : tie.InvT-loop
-Inv-loop masks₀ programs slots places n c best₀ i₀ masks best i = Best (rankAt (primaciesOf programs (slotsAt slots places)) (createdOf (slotsAt slots places)) (idsOf (slotsAt slots places))) n c masks₀ masks best i
+Inv-loop masks₀ programs slots places n c best₀ i₀ masks best i = BestSoFar (rankAt (primaciesOf programs (slotsAt slots places)) (createdOf (slotsAt slots places)) (idsOf (slotsAt slots places))) n c masks₀ masks best i
 
 abbrev μ-loop : tie.MeasureT-loop
 μ-loop masks₀ programs slots places n c best₀ i₀ masks best i = n - i
@@ -54,7 +55,7 @@ is-ahead-requires c κs =
     let w = s .args .slots .now in
     let i : l .i < s .args .n = c .before .before .before .before .before .before .loop-test .taken in
     let b : l .best < s .args .n = omega (arith, l .inv .bound, c .before .before .if2 .left) in
-    let numbered : (k : ℕ) → k < s .args .n → entryOf (getD w (getD (s .args .places .now) k 0) []) .event .program < 8 =
+    let numbered : (k : ℕ) → k < s .args .n → entryOf (getD w (getD (s .args .places .now) k 0) []) .event .program < mostPrograms =
     λ k h. rw (slot-there w (s .args .places .now) k (omega (arith, p .long, s .pre .0))) at (s .pre .1 .1 .1 .1 k h) in
     (p .within (l .i) i, p .within (l .best) b, s .pre .1 .1 .0 .0, numbered (l .i) i, numbered (l .best) b)
 

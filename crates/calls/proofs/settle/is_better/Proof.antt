@@ -1,5 +1,5 @@
 -- `settle::is_better` is `better`: key by key.
-use mathlib.Core.Path.{refl}
+use borrow.Author.Needs.{needs}
 use Rattle.rules.specs.Holding.{better}
 use Rattle.calls.proofs.Keys.{key-yes, key-no, key-tie}
 use Rattle.calls.proofs.settle.is_better.Statement.{statement}
@@ -24,8 +24,9 @@ returns-4 c = key-tie _ _ _ _ (c .before .before .before .if1 .left) (c .before 
 returns-5 : tie.Need-returns-5
 unfolding better
 returns-5 c =
-    key-tie _ _ _ _ (c .before .before .before .if1 .left) (c .before .before .if2 .left)
-    (key-tie _ _ _ _ (c .before .if3 .left) (c .if4 .left) refl)
+    let else = c .before in
+    key-tie _ _ _ _ (else .before .before .before .if1 .left) (else .before .before .if2 .left)
+    (key-tie _ _ _ _ (else .before .if3 .left) (else .if4 .left) (c .is-below .ensures))
 
 pub is-better-spec : {M : Type 1} → statement M
-is-better-spec = tie.close (tie.spec returns returns-2 returns-3 returns-4 returns-5)
+is-better-spec = tie.close (tie.spec returns returns-2 returns-3 returns-4 (λ c κs. search needs) returns-5)

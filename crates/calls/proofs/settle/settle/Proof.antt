@@ -9,7 +9,7 @@ use native.Mathlib.Omega.{arith}
 use mathlib.Core.List.{List}
 use lib.ListN.{length, take}
 use Rattle.rules.specs.declared.Program.{Program}
-use Rattle.rules.specs.Records.{has}
+use Rattle.rules.specs.Records.{has, mostEvents}
 use Rattle.rules.proofs.Masks.{has-none}
 use Rattle.calls.specs.Columns.{primaciesOf, createdOf, idsOf}
 use Rattle.calls.specs.Settled.{claimants, settled, rankAt, HasAt, Keeps}
@@ -25,9 +25,9 @@ abbrev μ-loop : tie.MeasureT-loop
 μ-loop masks₀ shared programs slots places n rest₀ masks rest = rest
 
 -- what each place keeps, over slots
-kept : (ms new : List ℕ) (ps : List Program) (w : List (List ℕ)) (n : ℕ) → n ≤ 48 → length ms ≡ 48 → length w ≡ 48 → length new ≡ length ms
+kept : (ms new : List ℕ) (ps : List Program) (w : List (List ℕ)) (n : ℕ) → n ≤ mostEvents → length ms ≡ mostEvents → length w ≡ mostEvents → length new ≡ length ms
     → ((i k : ℕ) → i < n → HasAt new i k ↔ Keeps (rankAt (primaciesOf ps w) (createdOf w) (idsOf w)) n ms k i)
-    → (length new ≡ 48) × (take n new ≡ settled (claimants (take n ms) (take n (primaciesOf ps w)) (take n (createdOf w)) (take n (idsOf w))))
+    → (length new ≡ mostEvents) × (take n new ≡ settled (claimants (take n ms) (take n (primaciesOf ps w)) (take n (createdOf w)) (take n (idsOf w))))
 kept ms new ps w n l m s t f = (
   t ∙ m,
   settled-is ms (primaciesOf ps w) (createdOf w) (idsOf w) n (omega arith) (omega (arith, primacies-long w ps)) (omega (arith, created-long w)) (omega (arith, ids-long w)) new (omega arith) f,

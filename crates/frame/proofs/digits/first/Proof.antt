@@ -11,8 +11,9 @@ returns c = sym (no-pair (c .before .before .args .line .now) (omega arith))
 
 returns-2 : tie.Need-returns-2
 returns-2 c =
-    rw (c .nibble2 .ensures, c .before .before .nibble .ensures)
-    (sym (first-pair (c .before .before .before .before .before .before .args .line .now) (omega arith)))
+    let high = c .before .before in
+    let start = high .before .before .before .before in
+    rw (c .nibble2 .ensures, high .nibble .ensures) (sym (first-pair (start .args .line .now) (omega arith)))
 
 pub first-spec : {M : Type 1} → statement M
 first-spec =

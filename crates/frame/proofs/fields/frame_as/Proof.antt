@@ -1,34 +1,51 @@
--- Kind by kind, its fields.
+-- Kind by kind, its fields, which are all there.
+use mathlib.Core.Path.{_∙_}
+use native.Mathlib.Omega.{arith}
 use borrow.Author.Needs.{needs}
 use borrow.Author.Tests.{ne-eqb}
+use Rattle.octets.proofs.Fits.{get-inside, get-fits, id-inside, event-inside}
 use Rattle.frame.specs.Decoded.{frameAs}
+use Rattle.frame.proofs.Fronts.{read-one}
 use Rattle.frame.proofs.fields.frame_as.Statement.{statement}
 use Rattle.frame.proofs.fields.frame_as.Tie as tie
 
 returns : tie.Need-returns
 unfolding frameAs
-returns c = rw (c .before .match .keys1, c .event .ensures)
+returns c =
+    let event = c .get-event .ensures ∙ event-inside _ _ (omega arith) in
+    rw (c .before .match .keys1, event)
 
 returns-2 : tie.Need-returns-2
 unfolding frameAs
-returns-2 c = rw (c .before .match .keys2, c .u64-at .ensures)
+returns-2 c =
+    let id = c .get-id .ensures ∙ id-inside _ _ (omega arith) in
+    rw (c .before .match .keys2, id)
 
 returns-3 : tie.Need-returns-3
 unfolding frameAs
-returns-3 c = rw (c .before .match .keys3, c .u64-at2 .ensures)
+returns-3 c =
+    let time = c .get .ensures ∙ get-inside _ _ _ (omega arith) (omega arith) in
+    rw (c .before .match .keys3, time)
+
+cast-defaults : tie.Need-cast-defaults
+cast-defaults c = record { fits = get-fits _ (λ i. c .before .before .shared-slice-known .given i .fits) 4 3 (omega arith) (omega arith) (c .get2 .ensures) }
 
 returns-4 : tie.Need-returns-4
 unfolding frameAs
-returns-4 c = rw (c .before .before .before .match .keys4, c .u32-at .ensures, c .before .u8-at2 .ensures, c .before .before .u8-at .ensures)
+returns-4 c =
+    let defaults = c .before .before in
+    let kind = defaults .before in
+    let b = kind .before .before .args .b .now in
+    rw (kind .match .keys4, defaults .get2 .ensures, get-inside 4 3 b (omega arith) (omega arith), read-one 1 b, read-one 2 b)
 
 returns-5 : tie.Need-returns-5
 unfolding frameAs
-returns-5 c = rw (c .before .match .keys5, c .u8-at3 .ensures)
+returns-5 c = let kind = c .before in rw (kind .match .keys5, read-one 1 (kind .before .before .args .b .now))
 
 returns-6 : tie.Need-returns-6
 unfolding frameAs
 returns-6 c =
-    let k = c .before .args .kind in
+    let k = c .before .before .args .kind in
     let r = c .match .rest in
     simp (ne-eqb k 1 (r .0 .0 .0 .0 .1), ne-eqb k 2 (r .0 .0 .0 .1), ne-eqb k 3 (r .0 .0 .1), ne-eqb k 4 (r .0 .1), ne-eqb k 5 (r .1))
 
@@ -40,9 +57,10 @@ frame-as-spec =
     (λ c κs. search needs)
     (λ c κs. search needs)
     (λ c κs. search needs)
-    (λ c κs. search needs)
-    (λ c κs. search needs)
-    (λ c κs. search needs)
+    cast-defaults
+    (λ c. search needs)
+    (λ c. search needs)
+    (λ c. search needs)
     returns
     returns-2
     returns-3

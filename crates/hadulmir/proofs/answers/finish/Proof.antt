@@ -17,11 +17,12 @@ returns-2 : tie.Need-returns-2
 unfolding finished
 returns-2 c =
     let w = c .before .before .before in
-    let n = w .before .before .before .before .number in
-    let start = w .before .before .before .before .before .before in
+    let accepted = w .before .before .before in
+    let n = accepted .before .number in
+    let start = accepted .before .before .before in
     let p = written-as (start .args .a .schedule) (start .args .image .now) (w .write .ensures) in
-    let fits = p .0 ∙ eq-eqb _ _ (start .pre .1) in
-    rw (c .returned2 .ensures, ← n .ensures, w .before .before .before .if1 .left, p .1, fits)
+    let fits = p .fits ∙ eq-eqb _ _ (start .pre .size) in
+    rw (c .returned2 .ensures, ← n .ensures, accepted .if1 .left, p .leaves, fits)
 
 pub finish-spec : {M : Type 1} → statement M
 finish-spec =

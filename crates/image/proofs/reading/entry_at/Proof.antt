@@ -1,12 +1,23 @@
--- Field by field.
+-- The event, which is all there, and then field by field.
+use native.Mathlib.Omega.{arith}
 use borrow.Author.Needs.{needs}
 use Rattle.rules.specs.Bytes.{entryAt}
+use Rattle.octets.proofs.Fits.{event-inside}
 use Rattle.image.proofs.reading.entry_at.Statement.{statement}
 use Rattle.image.proofs.reading.entry_at.Tie as tie
 
 returns : tie.Need-returns
 unfolding entryAt
-returns c = cc
+returns c =
+    let event = c .before .before .before in
+    let a = event .before .before .args in
+    rw (
+      event .get-event .ensures,
+      event-inside (a .at) (a .b .now) (omega arith),
+      c .before .before .u64-at .ensures,
+      c .before .u32-at .ensures,
+      c .u8-at .ensures,
+    )
 
 pub entry-at-spec : {M : Type 1} → statement M
 entry-at-spec =

@@ -20,35 +20,38 @@ abbrev μ-loop : tie.MeasureT-loop
 μ-loop b k n at place₀ left₀ place left = left
 
 loop-holds : tie.Need-loop-holds Inv-loop μ-loop
-loop-holds c = (c .before .pre .1, refl)
+loop-holds c = (c .before .pre .last, refl)
 
 u8-at-requires : tie.Need-u8-at-requires Inv-loop μ-loop
 u8-at-requires c κs =
     let l = c .before .loop in
     let a = c .before .before .before .args in
-    omega (arith, next-mark (a .k) (l .left) (l .place) (a .b .now) (c .loop-test .taken) .0)
+    omega (arith, next-mark (a .k) (l .left) (l .place) (a .b .now) (c .loop-test .taken) .room)
 
 returns : tie.Need-returns Inv-loop μ-loop
 returns c =
-    let l = c .before .before .before .loop in
-    let a = c .before .before .before .before .before .args in
-    let next = next-mark (a .k) (l .left) (l .place) (a .b .now) (c .before .before .loop-test .taken) .1 in
+    let turn = c .before .before in
+    let l = turn .before .loop in
+    let a = turn .before .before .before .args in
+    let next = next-mark (a .k) (l .left) (l .place) (a .b .now) (turn .loop-test .taken) .marks in
     let out : leb (read 1 (l .place) (a .b .now)) 1 ≡ false = lt-leb (read 1 (l .place) (a .b .now)) 1 (omega (arith, c .before .u8-at .ensures)) in
     sym (rw out at (sym (l .inv .1) ∙ next))
 
 add-place : tie.Need-add-place Inv-loop μ-loop
 add-place c =
-    let l = c .before .before .before .loop in
-    let a = c .before .before .before .before .before .args in
-    omega (arith, next-mark (a .k) (l .left) (l .place) (a .b .now) (c .before .before .loop-test .taken) .0)
+    let turn = c .before .before in
+    let l = turn .before .loop in
+    let a = turn .before .before .before .args in
+    omega (arith, next-mark (a .k) (l .left) (l .place) (a .b .now) (turn .loop-test .taken) .room)
 
 loop-again : tie.Need-loop-again Inv-loop μ-loop
 loop-again c =
-    let l = c .before .before .before .loop in
-    let a = c .before .before .before .before .before .args in
-    let next = next-mark (a .k) (l .left) (l .place) (a .b .now) (c .before .before .loop-test .taken) in
+    let turn = c .before .before in
+    let l = turn .before .loop in
+    let a = turn .before .before .before .args in
+    let next = next-mark (a .k) (l .left) (l .place) (a .b .now) (turn .loop-test .taken) in
     let good : leb (read 1 (l .place) (a .b .now)) 1 ≡ true = le-leb (read 1 (l .place) (a .b .now)) 1 (omega (arith, c .before .u8-at .ensures)) in
-    (omega (arith, next .0), sym (rw good at (next .1)) ∙ l .inv .1)
+    (omega (arith, next .room), sym (rw good at (next .marks)) ∙ l .inv .1)
 
 returns-2 : tie.Need-returns-2 Inv-loop μ-loop
 unfolding marked

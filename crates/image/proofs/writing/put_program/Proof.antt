@@ -14,14 +14,16 @@ use Rattle.image.proofs.writing.put_program.Tie as tie
 returns : tie.Need-returns
 unfolding big programBytes
 returns c =
-    let p₃ = c .before .before in
-    let p₂ = p₃ .before .before .before .before .before in
-    let p₁ = p₂ .before .before .before .before .before in
-    let a = p₁ .before .before .before .before .args in
+    let defaults = c .before .before in
+    let at-defaults = defaults .before .before in
+    let primacy = at-defaults .before .before .before in
+    let at-primacy = primacy .before .before in
+    let mark = at-primacy .before .before .before in
+    let a = mark .before .before .before .before .args in
     let p = a .p in
-    let w₁ = then (wrote-none (a .out .now) (a .at) (omega arith)) (a .at) (omega arith) 1 (boolByte (p .added)) (omega arith) (p₁ .put .ensures) in
-    let w₂ = then w₁ (a .at + 1) refl 1 (p .primacy) (omega arith) (p₂ .put2 .ensures) in
-    let w₃ = then w₂ (a .at + 2) refl 4 (p .defaults) (omega arith) (p₃ .put3 .ensures) in
+    let w₁ = then (wrote-none (a .out .now) (a .at) (omega arith)) (a .at) (omega arith) 1 (boolByte (p .added)) (omega arith) (mark .put .ensures) in
+    let w₂ = then w₁ (a .at + 1) refl 1 (p .primacy) (omega arith) (primacy .put2 .ensures) in
+    let w₃ = then w₂ (a .at + 2) refl 4 (p .defaults) (omega arith) (defaults .put3 .ensures) in
     rw mark-byte at (w₃ .is)
 
 pub put-program-spec : {M : Type 1} → statement M

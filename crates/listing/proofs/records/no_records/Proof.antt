@@ -1,4 +1,4 @@
--- 48 times the record of a place that is not in use.
+-- At each place the record of a place that is not in use.
 use mathlib.Core.Path.{ap}
 use borrow.Author.Needs.{needs}
 use lib.ListN.{replicate}

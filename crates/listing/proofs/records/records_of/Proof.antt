@@ -4,9 +4,8 @@ use Prim.Native.Nat.{_-_, _≤_}
 use mathlib.Core.List.{_++_}
 use native.Mathlib.Omega.{arith}
 use borrow.Author.Needs.{needs}
-use lib.ListN.{length, take, drop, getD, set, length-set}
-use Rattle.rules.specs.Records.{noEntry}
-use Rattle.rules.specs.Calls.{recordOf}
+use lib.ListN.{length, take, drop, length-set}
+use Rattle.rules.specs.Records.{mostEvents}
 use Rattle.rules.proofs.SoundState.{rules}
 use Rattle.listing.specs.Listed.{noRecords}
 use Rattle.listing.proofs.Recorded.{held, recorded-more, recorded-all}
@@ -14,7 +13,7 @@ use Rattle.listing.proofs.records.records_of.Statement.{statement}
 use Rattle.listing.proofs.records.records_of.Tie as tie
 
 abbrev Inv-loop : tie.InvT-loop
-Inv-loop s n records₀ i₀ records i = (i ≤ n) × (n ≤ 48) × (length (s .entries) ≡ 48) × (length records ≡ 48) × (records ≡ take i (held s) ++ drop i noRecords)
+Inv-loop s n records₀ i₀ records i = (i ≤ n) × (n ≤ mostEvents) × (length (s .entries) ≡ mostEvents) × (length records ≡ mostEvents) × (records ≡ take i (held s) ++ drop i noRecords)
 
 abbrev μ-loop : tie.MeasureT-loop
 μ-loop s n records₀ i₀ records i = n - i
@@ -34,7 +33,7 @@ loop-again c =
       l .inv .1,
       l .inv .2,
       simp length-set (l .inv .3),
-      ap (λ b. set b (l .i) (recordOf (getD (s .entries) (l .i) noEntry))) (l .inv .4) ∙ recorded-more s (d .pre) (l .i) (omega arith),
+      recorded-more s (d .pre) (l .i) _ (omega arith) (l .inv .4),
     )
 
 returns : tie.Need-returns Inv-loop μ-loop

@@ -6,24 +6,28 @@ use Rattle.text.proofs.Printing.{put-none, put-then, number-within, no-
 use Rattle.text.proofs.writing.ask_text.Statement.{statement}
 use Rattle.text.proofs.writing.ask_text.Tie as tie
 
-number-requires : tie.Need-number-requires
-number-requires c κs = omega (arith, number-within _ _ (c .before .before .before .control-text .ensures))
+id-text-requires : tie.Need-id-text-requires
+id-text-requires c κs = omega (arith, number-within _ _ (c .before .before .before .control-text .ensures))
 
-number-requires-2 : tie.Need-number-requires-2
-number-requires-2 c κs = omega (arith, number-within _ _ (c .before .before .before .control-text2 .ensures))
+number-requires : tie.Need-number-requires
+number-requires c κs = omega (arith, number-within _ _ (c .before .before .before .control-text2 .ensures))
 
 returns : tie.Need-returns
 returns c =
-    let d = c .before .before .before .before .before .before in
-    rw (d .before .before .before .before .answer .given .1) (simp append-assoc at (put-then (omega arith) (d .control-text .ensures) (c .before .before .number .ensures)))
+    let id = c .before .before in
+    let control = id .before .before .before .before in
+    rw (control .before .before .before .before .answer .given .1) (simp append-assoc at (put-then (omega arith) (control .control-text .ensures) (id .id-text .ensures)))
 
 returns-2 : tie.Need-returns-2
 returns-2 c =
-    let d = c .before .before .before .before .before .before in
-    rw (d .before .before .before .before .answer2 .given .1) (simp append-assoc at (put-then (omega arith) (d .control-text2 .ensures) (c .before .before .number2 .ensures)))
+    let program = c .before .before in
+    let control = program .before .before .before .before in
+    rw (control .before .before .before .before .answer2 .given .1) (simp append-assoc at (put-then (omega arith) (control .control-text2 .ensures) (program .number .ensures)))
 
 returns-3 : tie.Need-returns-3
-returns-3 c = rw (c .before .before .before .before .before .enum-told .given .1) (c .before .before .control-text3 .ensures)
+returns-3 c =
+    let control = c .before .before in
+    rw (control .before .before .before .enum-told .given .1) (control .control-text3 .ensures)
 
 returns-4 : tie.Need-returns-4
 returns-4 c = rw (no-question (c .before .before .args .control) (c .before .before .args .answer) (c .match .keys4)) put-none
@@ -35,12 +39,12 @@ ask-text-spec =
     (λ c. search needs)
     (λ c. search needs)
     (λ c κs. search needs)
-    number-requires
+    id-text-requires
     (λ c. search needs)
     (λ c. search needs)
     (λ c κs. search needs)
     (λ c. search needs)
-    number-requires-2
+    number-requires
     (λ c. search needs)
     (λ c. search needs)
     (λ c κs. search needs)

@@ -10,7 +10,10 @@ word-requires : tie.Need-word-requires
 word-requires c κs = omega (arith, number-within _ _ (c .before .before .before .number .ensures))
 
 returns : tie.Need-returns
-returns c = simp append-assoc at (put-then (omega arith) (c .before .before .before .before .before .before .number .ensures) (c .before .before .word .ensures))
+returns c =
+    let word = c .before .before in
+    let control = word .before .before .before .before in
+    simp append-assoc at (put-then (omega arith) (control .number .ensures) (word .word .ensures))
 
 pub control-text-spec : {M : Type 1} → statement M
 control-text-spec = tie.close (tie.spec (λ c κs. search needs) word-requires (λ c. search needs) returns)

@@ -7,18 +7,18 @@ use borrow.Author.Needs.{needs}
 use lib.ListN.{length-set}
 use Rattle.rules.specs.Printed.{decimal}
 use Rattle.text.proofs.Printing.{put-one, decimal-one}
-use Rattle.text.proofs.Digits.{some-digit, Left, left-all, left-one}
+use Rattle.text.proofs.Digits.{some-digit, DigitsLeft, left-all, left-one}
 use Rattle.text.proofs.writing.put_singly.Statement.{statement}
 use Rattle.text.proofs.writing.put_singly.Tie as tie
 
 abbrev Inv-loop : tie.InvT-loop
-Inv-loop out₀ at n x rest₀ i₀ out rest i = (i ≤ n) × Left out₀ at n x out rest i
+Inv-loop out₀ at n x rest₀ i₀ out rest i = (i ≤ n) × DigitsLeft out₀ at n x out rest i
 
 abbrev μ-loop : tie.MeasureT-loop
 μ-loop out₀ at n x rest₀ i₀ out rest i = rest
 
 loop-holds : tie.Need-loop-holds Inv-loop μ-loop
-loop-holds c = (omega arith, left-all (c .pre .0))
+loop-holds c = (omega arith, left-all (c .pre .digits))
 
 sub-i : tie.Need-sub-i Inv-loop μ-loop
 sub-i c = let l = c .before .loop in omega (arith, some-digit (l .i) (l .rest) (l .inv .1 .digits))
@@ -33,7 +33,7 @@ loop-again c = let l = c .before .loop in (omega arith, left-one (omega arith) (
 write : tie.Need-slice-write-out-2 Inv-loop μ-loop
 write c =
     let d = c .before .before in
-    omega (arith, some-digit (d .args .n) (d .args .x) (d .pre .0), c .before .loop .inv .1 .size)
+    omega (arith, some-digit (d .args .n) (d .args .x) (d .pre .digits), c .before .loop .inv .1 .size)
 
 same-length : tie.Need-same-length Inv-loop μ-loop
 same-length c = simp length-set (c .before .loop .inv .1 .size)

@@ -6,7 +6,10 @@ use Rattle.text.proofs.writing.refused.Statement.{statement}
 use Rattle.text.proofs.writing.refused.Tie as tie
 
 returns : tie.Need-returns
-returns c = put-then (omega arith) (c .before .before .before .before .before .before .word .ensures) (c .before .before .number .ensures)
+returns c =
+    let number = c .before .before in
+    let word = number .before .before .before .before in
+    put-then (omega arith) (word .word .ensures) (number .number .ensures)
 
 pub refused-spec : {M : Type 1} → statement M
 refused-spec = tie.close (tie.spec (λ c. search needs) (λ c κs. search needs) (λ c κs. search needs) (λ c. search needs) returns)

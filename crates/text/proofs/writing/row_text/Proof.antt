@@ -1,21 +1,26 @@
 -- The three numbers are those of the row.
-use mathlib.Core.Path.{_∙_}
+use mathlib.Core.Path.{ap, _∙_}
 use Prim.Native.Nat.{_+_}
 use native.Mathlib.Omega.{arith}
 use borrow.Author.Needs.{needs}
-use Rattle.octets.proofs.Fits.{get-inside}
+use Rattle.rules.specs.Records.{idSize, idNumber}
+use Rattle.rules.proofs.IdLaws.{number-id}
+use Rattle.rules.proofs.Numbers.{Bytes, read-below}
+use Rattle.octets.proofs.Fits.{get-inside, id-inside}
 use Rattle.text.proofs.Printing.{read-one}
 use Rattle.text.proofs.writing.row_text.Statement.{statement}
 use Rattle.text.proofs.writing.row_text.Tie as tie
 
 returns : tie.Need-returns
 returns c =
-    let d = c .before .before .before .before .before in
-    let a = d .before .before .before .before .args in
+    let text = c .before .before in
+    let read = text .before .before .before in
+    let a = read .before .before .before .before .args in
     let l = a .rows .now in
-    let time = d .before .get .ensures ∙ get-inside 8 (a .from) l (omega arith) (omega arith) in
-    let id = d .get2 .ensures ∙ get-inside 8 (a .from + 8) l (omega arith) (omega arith) in
-    rw (← time, ← id, read-one (a .from + 16) l) (c .before .before .three .ensures)
+    let time = read .before .get .ensures ∙ get-inside 8 (a .from) l (omega arith) (omega arith) in
+    let bytes : Bytes l = λ i. omega (arith, read .before .before .shared-slice-known .given i) in
+    let id = ap idNumber (read .get-id .ensures ∙ id-inside (a .from + 8) l (omega arith)) ∙ number-id _ (read-below l bytes idSize (a .from + 8)) in
+    rw (← time, ← id, read-one (a .from + (8 + idSize)) l) (text .three .ensures)
 
 pub row-text-spec : {M : Type 1} → statement M
 row-text-spec =

@@ -20,21 +20,26 @@ loop-holds : tie.Need-loop-holds Inv-loop μ-loop
 unfolding rowsText
 loop-holds c = (omega arith, refl, put-none)
 
+-- from the loop back to the entry of the function
+abbrev start : tie.At-loop Inv-loop μ-loop → tie.Start Inv-loop μ-loop
+start loop = loop .before .before .before
+
 row-text-requires : tie.Need-row-text-requires Inv-loop μ-loop
 row-text-requires c κs =
     let l = c .before .before .loop in
-    let short = rows-length (c .before .before .before .before .before .args .rows .now) (l .i) 0 in
-    (omega arith, omega (arith, short, l .inv .2 .end))
+    let short = rows-length (start (c .before .before) .args .rows .now) (l .i) 0 in
+    record { there = omega arith; room = omega (arith, short, l .inv .2 .end) }
 
 loop-again : tie.Need-loop-again Inv-loop μ-loop
 loop-again c =
-    let l = c .before .before .before .before .before .loop in
-    (omega arith, omega arith, rows-next _ (l .i) (omega arith) (l .inv .2) (c .before .before .row-text .ensures))
+    let row = c .before .before in
+    let l = row .before .before .before .loop in
+    (omega arith, omega arith, rows-next _ (l .i) (omega arith) (l .inv .2) (row .row-text .ensures))
 
 returns : tie.Need-returns Inv-loop μ-loop
 returns c =
     let l = c .before .loop in
-    let z : l .i ≡ c .before .before .before .before .args .count = omega arith in
+    let z : l .i ≡ start (c .before) .args .count = omega arith in
     rw z at (l .inv .2)
 
 pub rows-text-spec : {M : Type 1} → statement M

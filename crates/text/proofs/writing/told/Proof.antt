@@ -13,21 +13,24 @@ returns c o n v b =
 
 returns-2 : tie.Need-returns-2
 returns-2 c o n v b =
-    let d = c .before .before .before .before .before in
-    let s = d .before .before in
-    rw (n ∙ sym (s .before .number .ensures) ∙ s .if1 .left, d .f .given .1, v) (c .before .before .code-text .ensures)
+    let text = c .before .before in
+    let kind = text .before .before .before in
+    let s = kind .before .before in
+    rw (n ∙ sym (s .before .number .ensures) ∙ s .if1 .left, kind .f .given .1, v) (text .code-text .ensures)
 
 returns-3 : tie.Need-returns-3
 returns-3 c o n v b =
-    let d = c .before .before .before .before .before in
-    let s = d .before .before in
-    rw (n ∙ sym (s .before .number .ensures) ∙ s .if1 .left, d .f2 .given .1, v) (c .before .before .code-text2 .ensures)
+    let text = c .before .before in
+    let kind = text .before .before .before in
+    let s = kind .before .before in
+    rw (n ∙ sym (s .before .number .ensures) ∙ s .if1 .left, kind .f2 .given .1, v) (text .code-text2 .ensures)
 
 returns-4 : tie.Need-returns-4
 returns-4 c o n v b =
-    let d = c .before .before .before .before .before in
-    let s = d .before .before in
-    rw (n ∙ sym (s .before .number .ensures) ∙ s .if1 .left, d .enum-told .given .1, v, b, ← c .before .before .before .count .ensures) (c .before .before .rows-text .ensures)
+    let text = c .before .before in
+    let kind = text .before .before .before in
+    let s = kind .before .before in
+    rw (n ∙ sym (s .before .number .ensures) ∙ s .if1 .left, kind .enum-told .given .1, v, b, ← text .before .count .ensures) (text .rows-text .ensures)
 
 returns-5 : tie.Need-returns-5
 returns-5 c o n v b =
@@ -36,9 +39,10 @@ returns-5 c o n v b =
 
 returns-6 : tie.Need-returns-6
 returns-6 c o n v b =
-    let d = c .before .before .before .before .before in
-    let s = d .before .before in
-    rw (n ∙ sym (s .before .number .ensures) ∙ s .if1 .left, d .f3 .given .1, v) (c .before .before .ask-text .ensures)
+    let text = c .before .before in
+    let kind = text .before .before .before in
+    let s = kind .before .before in
+    rw (n ∙ sym (s .before .number .ensures) ∙ s .if1 .left, kind .f3 .given .1, v) (text .ask-text .ensures)
 
 pub told-spec : {M : Type 1} → statement M
 told-spec =

@@ -1,0 +1,2 @@
+-- What the parts of the program promise to each other.
+pub mod Pieces
