@@ -186,11 +186,6 @@ pub(crate) fn codes_at(
     given
 }
 
-// The places of the id and of the code in a row.
-const ID_AT: usize = 8;
-
-const CODE_AT: usize = ID_AT + Id::SIZE;
-
 // A row behind the first `at`, if the code is k.
 pub(crate) fn add_row(rows: &mut Rows, at: usize, t: u64, id: Id, code: u8, k: u8) -> usize
     requires { ⌜ length (now rows) ≡ rowsSize ⌝ }
@@ -200,8 +195,8 @@ pub(crate) fn add_row(rows: &mut Rows, at: usize, t: u64, id: Id, code: u8, k: u
     if code == k {
         let b = at * rules::ROW_SIZE;
         octets::put8(rows, b, t);
-        octets::put_id(rows, b + ID_AT, id);
-        rows[b + CODE_AT] = k;
+        octets::put_id(rows, b + rules::ROW_ID, id);
+        rows[b + rules::ROW_CODE] = k;
         return at + 1;
     }
     at

@@ -29,7 +29,7 @@ unfoldable pub decimal : ℕ → ℕ → List ℕ
 decimal zero x = []
 decimal (suc n) x = cond (ltb x 10) ((48 + x) ∷ []) (decimal n (x / 10) ++ ((48 + x % 10) ∷ []))
 
--- how many a printed number has at the most: all are below 2 ^ 64
+-- how many digits a printed number has at the most: all are below 2 ^ 64
 abbrev pub mostDigits : ℕ
 mostDigits = 20
 
@@ -57,11 +57,14 @@ codeText clock i (code k) = cond (eqb k 0) [] (threeText clock i k)
 codeText clock i (count n) = []
 codeText clock i (governor g) = []
 
+-- the row that stands in a buffer from `at` on: time, id, code
+abbrev pub rowText : ℕ → List ℕ → List ℕ
+rowText at b = threeText (read 8 at b) (read idSize (at + 8) b) (read 1 (at + (8 + idSize)) b)
+
 -- the rows in a buffer
 unfoldable pub rowsText : ℕ → ℕ → List ℕ → List ℕ
 rowsText zero at b = []
-rowsText (suc n) at b =
-    threeText (read 8 at b) (read idSize (at + 8) b) (read 1 (at + (8 + idSize)) b) ++ rowsText n (at + rowSize) b
+rowsText (suc n) at b = rowText at b ++ rowsText n (at + rowSize) b
 
 -- a question: control event id, control default program, or control none
 abbrev pub governorText : ℕ → Governor → List ℕ

@@ -25,8 +25,13 @@ ghost use Rattle.rules.specs.MomentTable.{momentsHold, momentTable};
 mod ids;
 pub mod times;
 
-// Response rows. How many bytes a row has, how many rows a clock call gives at the most, and the bytes of them all.
-pub const ROW_SIZE: usize = 8 + Id::SIZE + 1;
+// Response rows. Where id and code stand in a row, behind its time, and how many bytes it has; how many rows a clock call gives at the most, and the
+// bytes of them all.
+pub const ROW_ID: usize = 8;
+
+pub const ROW_CODE: usize = ROW_ID + Id::SIZE;
+
+pub const ROW_SIZE: usize = ROW_CODE + 1;
 
 pub const MOST_ROWS: usize = 2 * Schedule::EVENTS;
 

@@ -17,9 +17,9 @@ use Rattle.rules.proofs.Answer.{the-type as answers}
 use Rattle.rules.specs.Records.{idSize}
 use Rattle.rules.specs.Bytes.{read, rowSize}
 use Rattle.rules.specs.Calls.{valueOf}
-use Rattle.rules.specs.Printed.{decimal, digits, threeText, codeText, rowsText, askText}
+use Rattle.rules.specs.Printed.{decimal, digits, threeText, codeText, rowsText, askText, rowText}
 use Rattle.rules.proofs.Over.{over-then, over-none}
-use Rattle.text.specs.Texts.{Stands, numberDigits, idDigits, mostRow, ifRoom, rowText}
+use Rattle.text.specs.Texts.{Stands, numberDigits, idDigits, mostRow, ifRoom}
 
 module _ {l : List ℕ} {at : ℕ} where
   pub put-none : Stands l at [] l at

@@ -6,9 +6,8 @@ use mathlib.Core.List.{List, [], _∷_}
 use lib.Dec.{leb}
 use lib.ListN.{length}
 use Rattle.rules.specs.Lists.{overAt}
-use Rattle.rules.specs.Records.{idSize, mostRows}
-use Rattle.rules.specs.Bytes.{read, rowSize, rowsSize}
-use Rattle.rules.specs.Printed.{threeText}
+use Rattle.rules.specs.Records.{mostRows}
+use Rattle.rules.specs.Bytes.{rowSize, rowsSize}
 
 -- a text stands in a buffer from `at` on, and `behind` is the place behind it
 pub record Stands (old : List ℕ) (at : ℕ) (text new : List ℕ) (behind : ℕ) : Type 0 where
@@ -52,10 +51,6 @@ mostRow = mostNumber + mostId + mostNumber
 -- no line's text is longer: as many rows as there can be
 abbrev pub mostText : ℕ
 mostText = mostRows * mostRow
-
--- the text of the row that stands at `at`
-abbrev pub rowText : ℕ → List ℕ → List ℕ
-rowText at b = threeText (read 8 at b) (read idSize (at + 8) b) (read 1 (at + (8 + idSize)) b)
 
 -- a number has n digits, and there is room for them
 pub record DigitsFit (n x at : ℕ) (out : List ℕ) : Type 0 where

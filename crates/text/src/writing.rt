@@ -8,18 +8,15 @@ ghost use lib.ListN.{length};
 ghost use Rattle.rules.specs.Lists.{overAt};
 ghost use Rattle.rules.specs.Records.{idNumber};
 ghost use Rattle.rules.specs.Calls.{Outcome, numberOf, valueOf, counted};
-ghost use Rattle.rules.specs.Printed.{decimal, digits, space, refusedText, threeText, codeText, rowsText, askText, frameText};
-ghost use Rattle.text.specs.Texts.{HasDigits, Stands, lastFour, rowText, DigitsFit, RowsFit, LineFits};
+ghost use Rattle.rules.specs.Printed.{decimal, digits, space, refusedText, threeText, codeText, rowText, rowsText, askText, frameText};
+ghost use Rattle.text.specs.Texts.{HasDigits, Stands, lastFour, DigitsFit, RowsFit, LineFits};
 ghost use Rattle.text.specs.Texts.{numberDigits, mostNumber, mostId, mostRefused, mostAsk, mostRow};
 use rules::Answer;
 use rules::Frame;
 use rules::Id;
+use rules::ROW_CODE;
+use rules::ROW_ID;
 use rules::ROW_SIZE;
-
-// Where id and code stand in a row, behind its time.
-const ID: usize = 8;
-
-const CODE: usize = 8 + Id::SIZE;
 
 // How many decimal digits a number that is not 0 has: four for each division by 10000, and those of what is left.
 fn length_of(x: u64) -> usize
@@ -200,8 +197,8 @@ fn row_text(out: &mut [u8], at: usize, rows: &[u8], from: usize) -> usize
     ensures { λ r. ⌜ Stands (now (out .entry)) at (rowText from (now (rows .entry))) (now (out .exit)) r ⌝ }
 {
     let time = octets::get(rows, from, 8);
-    let id = octets::get_id(rows, from + ID);
-    three(out, at, time, id, rows[from + CODE])
+    let id = octets::get_id(rows, from + ROW_ID);
+    three(out, at, time, id, rows[from + ROW_CODE])
 }
 
 // The rows in a buffer.
