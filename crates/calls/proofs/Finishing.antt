@@ -1,7 +1,7 @@
 -- The slots that last come to the front, one by one; those not looked at yet are as they were.
 use mathlib.Core.Path.{_≡_, refl, sym, ap, ap₂, _∙_, subst}
 use Prim.Native.Nat.{ℕ, suc, _+_, _<_, _≤_}
-use mathlib.Core.Bool.{cond}
+use mathlib.Core.Bool.{true, cond}
 use mathlib.Core.List.{List, [], _∷_, _++_, map, map-append, append-nil}
 use native.Mathlib.Omega.{arith}
 use native.Mathlib.Numerals.{add-one}
@@ -9,13 +9,17 @@ use lib.ListN.{length, getD, set, take, length-set}
 use lib.Seq.{getD-set-other, take-suc, take-suc-set, set-getD}
 use borrow.Author.Tests.{lt-ltb, le-ltb}
 use Rattle.rules.specs.declared.Entry.{Entry}
-use Rattle.rules.specs.Lists.{keep}
-use Rattle.rules.specs.Records.{mostEvents}
+use Rattle.rules.specs.Lists.{keep, All}
+use Rattle.rules.specs.Records.{mostEvents, noEntry}
 use Rattle.rules.specs.Holding.{endOf}
 use Rattle.rules.specs.Moments.{lasts}
+use Rattle.rules.proofs.ListLaws.{keep-all}
 use Rattle.calls.specs.Slots.{entryOf}
+use Rattle.calls.specs.Agenda.{Lasting}
 use Rattle.calls.specs.Finished.{Finished}
-use Rattle.calls.proofs.Moment.{keep-append}
+use Rattle.calls.proofs.Reached.{in-at}
+use Rattle.calls.proofs.Slots.{in-slots, slot-at}
+use Rattle.calls.proofs.Sets.{keep-append}
 
 -- those of the first d that last
 abbrev lasting : ℕ → ℕ → List (List ℕ) → List Entry
@@ -28,8 +32,23 @@ pub record ToFront (to d : ℕ) (old new : List (List ℕ)) (k : ℕ) : Type 0 w
   pub front : map entryOf (take k new) ≡ lasting to d old
   pub rest : (j : ℕ) → d ≤ j → getD new j [] ≡ getD old j []
 
-pub none-gathered : (to : ℕ) (old : List (List ℕ)) → length old ≡ mostEvents → ToFront to 0 old old 0
-none-gathered to old l = record { size = l; fewer = omega arith; front = refl; rest = λ j h. refl }
+-- slots of events that all last are at the front already
+pub front-lasts : (to d : ℕ) (old : List (List ℕ)) → length old ≡ mostEvents → d ≤ mostEvents → Lasting to d old → ToFront to d old old d
+front-lasts to d old l m f = record {
+  size = l;
+  fewer = omega arith;
+  front = sym (keep-all (lasts to) (map entryOf (take d old)) each);
+  rest = λ j h. refl;
+}
+  where
+    fits : d ≤ length old
+    fits = omega arith
+
+    each : All (λ h. lasts to h ≡ true) (map entryOf (take d old))
+    each h i =
+        let r = in-at noEntry (map entryOf (take d old)) h i in
+        let k : r .0 < d = omega (arith, r .1, in-slots old d fits) in
+        subst (λ x. lasts to x ≡ true) (sym (slot-at old d fits (r .0) k) ∙ r .2) (lt-ltb to (endOf (entryOf (getD old (r .0) []))) (f (r .0) k))
 
 module _ (to d : ℕ) (old new : List (List ℕ)) (k : ℕ) (w : ToFront to d old new k) (l : d < mostEvents) (o : length old ≡ mostEvents) where
   abbrev it : Entry

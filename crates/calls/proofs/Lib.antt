@@ -3,21 +3,24 @@ pub mod Fill  -- an array filled from the front, one place more
 pub mod Puts  -- bytes and rows written one after the other
 pub mod Undropped  -- moments without dropping what has ended are the moments
 pub mod Reached  -- what stands at a place of a list
-pub mod Columned  -- a column at a place is a field of the event in the slot there
-pub mod AtPlaces  -- the same of slots at places
 pub mod Slots  -- slots in use and the schedule that they are
 pub mod Laid  -- slots in use as entries by value
-pub mod Moment  -- a moment over columns is the moment of the definitions
-pub mod Asleep  -- entries that can claim nothing change nothing
 pub mod Keys  -- one key of a rank decides, or leaves it to the next
 pub mod Controls  -- one control cut from a mask, and looked for at places
-pub mod Deciding  -- the best so far keeps one control
-pub mod Merging  -- the moments of the live events are the moments of all
-pub mod Settling  -- controls decided one by one
-pub mod Claimants  -- what is settled is what each place keeps
-pub mod Finishing  -- the slots that last come to the front, one by one
-pub mod Picking  -- the places of live events found, and masks given back, one by one
+pub mod Contending  -- settling with one claimant more is contending
+pub mod Sets  -- the lowest place of a set, and its places in order
+pub mod Contests  -- an event contends with those that hold something, one after the other
+pub mod Starting  -- the events of a set begin, one after the other
+pub mod Phases  -- what an event does at a moment, its claim and its code
+pub mod Moments  -- a moment on slots is the moment of the definitions
+pub mod Releasing  -- the events of a set let go of what they hold, one by one
+pub mod Reporting  -- the rows of a set of places, one by one
+pub mod AgendaPlanning  -- a number put in its place, from the back
+pub mod AgendaGathering  -- the changes of events planned, event by event
+pub mod AgendaTaking  -- changes taken one by one
+pub mod AgendaLaws  -- what an agenda says of the moments
 pub mod Advancing  -- the loop over moments: what was passed and what is left
+pub mod Finishing  -- the slots that last come to the front, one by one
 pub mod Answers  -- the number that a call gives on a schedule by value
 pub mod Places  -- the place of an id tells what is held under it
 pub mod Placing  -- slots with an event put in or marked at its place

@@ -4,10 +4,11 @@ ghost use mathlib.Core.Path.{_≡_};
 ghost use mathlib.Core.Bool.{cond};
 ghost use mathlib.Core.List.{[]};
 ghost use Prim.Native.Nat.{_<_};
-ghost use lib.ListN.{getD};
+ghost use lib.ListN.{length, getD};
 ghost use Rattle.rules.specs.Records.{mostEvents};
-ghost use Rattle.rules.specs.Holding.{withHolding};
+ghost use Rattle.rules.specs.Holding.{endOf, withHolding};
 ghost use Rattle.calls.specs.Slots.{entryOf, headOf, scheduleOf, InUse, CanTake, TakenApart};
+ghost use Rattle.calls.specs.Sets.{Masked};
 use rules::Entry;
 use rules::Event;
 use rules::Id;
@@ -61,15 +62,6 @@ pub(crate) const NO_SLOTS: Slots = [[0; SLOT_SIZE]; Schedule::EVENTS];
 pub(crate) type Rows = [u8; rules::ROWS_SIZE];
 
 pub(crate) const NO_ROWS: Rows = [0; rules::ROWS_SIZE];
-
-// A number for each of some events: times, masks, places of slots, response codes.
-pub(crate) type Times = [u64; Schedule::EVENTS];
-
-pub(crate) type Masks = [u32; Schedule::EVENTS];
-
-pub(crate) type Places = [u8; Schedule::EVENTS];
-
-pub(crate) type RowCodes = [u8; Schedule::EVENTS];
 
 // What a schedule has besides its events.
 pub(crate) struct Head {
@@ -134,7 +126,7 @@ pub(crate) fn entry_of(slot: Slot) -> Entry
 }
 
 // The event in a slot with another held mask.
-pub(crate) fn with_mask(mut slot: Slot, held: u32) -> Slot
+fn with_mask(mut slot: Slot, held: u32) -> Slot
     ensures { λ r. ⌜ entryOf r ≡ withHolding (entryOf slot) (record { held = held }) ⌝ }
 {
     slot[HELD] = held as u64;
@@ -156,6 +148,13 @@ pub(crate) fn program_at(slots: &Slots, i: usize) -> u8
     (slots[i][PROGRAM] % VALUES8) as u8
 }
 
+pub(crate) fn controls_at(slots: &Slots, i: usize) -> u32
+    requires { ⌜ i < mostEvents ⌝ }
+    ensures { λ r. ⌜ r ≡ entryOf (getD (now (slots .entry)) i []) .event .controls ⌝ }
+{
+    (slots[i][CONTROLS] % VALUES32) as u32
+}
+
 pub(crate) fn created_at(slots: &Slots, i: usize) -> u32
     requires { ⌜ i < mostEvents ⌝ }
     ensures { λ r. ⌜ r ≡ entryOf (getD (now (slots .entry)) i []) .event .created ⌝ }
@@ -170,6 +169,17 @@ pub(crate) fn begins_at(slots: &Slots, i: usize) -> u64
     slots[i][BEGINS]
 }
 
+pub(crate) fn ends_at(slots: &Slots, i: usize) -> u64
+    requires { ⌜ i < mostEvents ⌝ }
+    ensures { λ r. ⌜ r ≡ endOf (entryOf (getD (now (slots .entry)) i [])) ⌝ }
+{
+    let slot = slots[i];
+    let h = entry_of(slot);
+    let e = h.event;
+    let end = e.effective_end();
+    end.time
+}
+
 pub(crate) fn held_at(slots: &Slots, i: usize) -> u32
     requires { ⌜ i < mostEvents ⌝ }
     ensures { λ r. ⌜ r ≡ entryOf (getD (now (slots .entry)) i []) .held ⌝ }
@@ -182,6 +192,15 @@ pub(crate) fn is_cancelled_at(slots: &Slots, i: usize) -> bool
     ensures { λ r. ⌜ r ≡ entryOf (getD (now (slots .entry)) i []) .cancelled ⌝ }
 {
     slots[i][CANCELLED] == 1
+}
+
+// The event in slot i gets another held mask.
+pub(crate) fn set_mask(slots: &mut Slots, i: usize, held: u32)
+    requires { ⌜ (i < mostEvents) × (length (now slots) ≡ mostEvents) ⌝ }
+    ensures { λ _. ⌜ Masked i held (now (slots .entry)) (now (slots .exit)) ⌝ }
+{
+    let slot = slots[i];
+    slots[i] = with_mask(slot, held);
 }
 
 pub(crate) fn head_of(s: Schedule) -> Head

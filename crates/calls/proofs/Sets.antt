@@ -1,0 +1,270 @@
+-- Sets of places: their lowest place, their places in order, and what becomes of the set of holders when one place gets another mask.
+use mathlib.Core.Path.{_≡_, refl, sym, ap, ap₂, _∙_}
+use mathlib.Core.Logic.{_↔_, _⊎_, inl, inr, ⊎-elim}
+use Prim.Native.Nat.{ℕ, zero, suc, _+_, _*_, _/_, _%_, _^_, _<_, _≤_}
+use mathlib.Core.Bool.{Bool, true, false, cond, not, _&&_, _||_, and-true, and-false, or-true, or-false}
+use mathlib.Core.List.{List, [], _∷_, _++_, map, append-nil}
+use native.Mathlib.Nat.{one-mul, eq-or-lt-of-le}
+use native.Mathlib.Numerals.{add-one}
+use native.Mathlib.Omega.{arith}
+use lib.Bits.{bitAnd, bitOr, bitXor, and-le-l}
+use lib.Count.{trailingZeros, under}
+use lib.Dec.{eqb}
+use lib.ListN.{length, getD, length-append, length-map, List·getD-append}
+use lib.Pow.{shl-exact}
+use lib.Seq.{ext-getD, getD-at}
+use borrow.Author.Tests.{eqb-true, eqb-false, eq-eqb, ne-eqb}
+use Rattle.rules.specs.Lists.{keep, In, All}
+use Rattle.rules.specs.Records.{has, cut, join}
+use Rattle.rules.proofs.Tests.{both, each-true}
+use Rattle.rules.proofs.ListLaws.{in-append, keep-no}
+use Rattle.rules.proofs.Masks.{has-and, has-half, has-cut, has-join, has-none, not-has}
+use Rattle.rules.proofs.Nobody.{has-ext}
+use Rattle.calls.specs.Slots.{entryOf}
+use Rattle.calls.specs.Sets.{placesTo, maskAt, SetOf, Holders, Masked, Counted}
+use Rattle.calls.proofs.Reached.{at-map}
+use Rattle.calls.proofs.Controls.{has-self, has-only, not-only, flipped, cut-same, cut-other, has-lowest, has-within, flip-same, flip-other, flip-less}
+use Rattle.calls.proofs.Contending.{same}
+
+-- Lists and places.
+
+pub keep-append : {A : Type 0} (p : A → Bool) (xs ys : List A) → keep p (xs ++ ys) ≡ keep p xs ++ keep p ys
+keep-append p [] ys = refl
+keep-append p (x ∷ xs) ys = go (p x) (keep-append p xs ys)
+  where
+    go : (b : Bool) → keep p (xs ++ ys) ≡ keep p xs ++ keep p ys → cond b (x ∷ keep p (xs ++ ys)) (keep p (xs ++ ys)) ≡ cond b (x ∷ keep p xs) (keep p xs) ++ keep p ys
+    go true ih = ap (_∷_ x) ih
+    go false ih = ih
+
+pub places-length : (n : ℕ) → length (placesTo n) ≡ n
+unfolding placesTo
+places-length zero = refl
+places-length (suc n) = length-append (placesTo n) (n ∷ []) ∙ omega (arith, places-length n)
+
+pub place-below : (n i : ℕ) → In i (placesTo n) → i < n
+unfolding placesTo
+place-below (suc n) i m = ⊎-elim (λ q. omega (arith, place-below n i q)) (λ q. ⊎-elim (λ e. omega arith) (λ z. absurd z) q) (in-append i (placesTo n) (n ∷ []) m)
+
+place-at : (n i : ℕ) → i < n → getD (placesTo n) i 0 ≡ i
+unfolding placesTo
+place-at (suc n) i l = go (eqb i n) refl (λ q. place-at n i q)
+  where
+    go : (b : Bool) → eqb i n ≡ b → (i < n → getD (placesTo n) i 0 ≡ i) → getD (placesTo n ++ (n ∷ [])) i 0 ≡ i
+    go true e ih = let q = eqb-true i n e in rw q (getD-at (placesTo n) n [] 0 n (places-length n))
+    go false e ih = let q = eqb-false i n e in List·getD-append (placesTo n) (n ∷ []) 0 i (omega (arith, places-length n)) ∙ ih (omega arith)
+
+-- a list place by place
+pub by-place : {A : Type 0} (d : A) (f : ℕ → A) (us : List A) (n : ℕ) → length us ≡ n → ((i : ℕ) → i < n → getD us i d ≡ f i) → us ≡ map f (placesTo n)
+by-place d f us n e h =
+    let many = length-map (placesTo n) f ∙ places-length n in
+    ext-getD d us (map f (placesTo n)) (e ∙ sym many)
+    (λ i l. let b : i < n = omega arith in h i b ∙ sym (at-map f 0 d (placesTo n) i (omega (arith, places-length n)) ∙ ap f (place-at n i b)))
+
+-- places past the last that passes a test do not count
+pub keep-places : (p : ℕ → Bool) (n d : ℕ) → ((i : ℕ) → p i ≡ true → i < n) → keep p (placesTo (d + n)) ≡ keep p (placesTo n)
+unfolding placesTo
+keep-places p n zero f = let e : 0 + n ≡ n = omega arith in rw e
+keep-places p n (suc d) f =
+    let e : suc d + n ≡ suc (d + n) = omega arith in
+    rw (e, keep-append p (placesTo (d + n)) ((d + n) ∷ []), keep-places p n d f) (go (p (d + n)) refl)
+  where
+    go : (b : Bool) → p (d + n) ≡ b → keep p (placesTo n) ++ cond b ((d + n) ∷ []) [] ≡ keep p (placesTo n)
+    go true q = absurd (omega (arith, f (d + n) q))
+    go false q = append-nil (keep p (placesTo n))
+
+-- the first that passes a test, and then the others
+first-place : (p q : ℕ → Bool) (i : ℕ) → p i ≡ true → ((j : ℕ) → j < i → p j ≡ false) → q i ≡ false → ((j : ℕ) → (j ≡ i → ⊥) → q j ≡ p j)
+    → (m : ℕ) → i < m → keep p (placesTo m) ≡ i ∷ keep q (placesTo m)
+unfolding placesTo
+first-place p q i a b c d (suc m) l =
+    keep-append p (placesTo m) (m ∷ []) ∙ ⊎-elim at-last (before (λ z. first-place p q i a b c d m z)) (same m i) ∙ ap (_∷_ i) (sym (keep-append q (placesTo m) (m ∷ [])))
+  where
+    at-last : m ≡ i → keep p (placesTo m) ++ keep p (m ∷ []) ≡ i ∷ (keep q (placesTo m) ++ keep q (m ∷ []))
+    at-last e =
+        let none : All (λ j. p j ≡ false) (placesTo m) = λ j n. b j (omega (arith, place-below m j n)) in
+        let others : All (λ j. q j ≡ false) (placesTo m) = λ j n. let z = place-below m j n in d j (λ y. omega arith) ∙ b j (omega arith) in
+        rw (keep-no p (placesTo m) none, keep-no q (placesTo m) others, e, a, c)
+
+    before : (i < m → keep p (placesTo m) ≡ i ∷ keep q (placesTo m)) → (m ≡ i → ⊥) → keep p (placesTo m) ++ keep p (m ∷ []) ≡ i ∷ (keep q (placesTo m) ++ keep q (m ∷ []))
+    before ih e = rw (ih (omega arith), d m e)
+
+-- The lowest place of a set, or the lowest control of a mask, of so many bits.
+
+lowest-first : (width m i : ℕ) → i < trailingZeros width m → has m i ≡ false
+unfolding trailingZeros has
+lowest-first zero m i l = absurd (omega arith)
+lowest-first (suc width) m i l = go (m % 2) refl i (λ j. lowest-first width (m / 2) j) l
+  where
+    go : (d : ℕ) → m % 2 ≡ d → (i : ℕ) → ((j : ℕ) → j < trailingZeros width (m / 2) → has (m / 2) j ≡ false) → i < under d (trailingZeros width (m / 2)) → has m i ≡ false
+    go zero e zero ih l = ne-eqb _ 1 (λ (z : m / 1 % 2 ≡ 1). omega arith)
+    go zero e (suc j) ih l = sym (has-half m j) ∙ ih j (omega arith)
+    go (suc d) e i ih l = absurd (omega arith)
+
+module _ (width rest : ℕ) (small : rest < 2 ^ width) (some : rest ≡ 0 → ⊥) where
+  abbrev pub next : ℕ
+  next = trailingZeros width rest
+
+  pub has-next : has rest next ≡ true
+  has-next = has-lowest width rest (omega arith) small
+
+  pub next-below : next < width
+  next-below = has-within width rest next small has-next
+
+  -- the mask of it alone
+  alone : 1 * 2 ^ next % 2 ^ width ≡ 2 ^ next
+  alone = shl-exact {a = 1} 1 next width (omega arith) (omega (arith, next-below)) ∙ one-mul (2 ^ next)
+
+  abbrev pub after : ℕ
+  after = bitXor rest (1 * 2 ^ next % 2 ^ width)
+
+  pub fewer : after < rest
+  fewer = rw alone (flip-less rest next has-next)
+
+  pub gone : has after next ≡ false
+  gone = rw alone (flip-same rest next has-next)
+
+  pub stays : (k : ℕ) → (k ≡ next → ⊥) → has after k ≡ has rest k
+  stays = rw alone (flip-other rest next has-next)
+
+  -- what is left was there
+  pub still : (k : ℕ) → has after k ≡ true → has rest k ≡ true
+  still k e = ⊎-elim (λ q. both (has after k) e (rw q gone)) (λ d. sym (stays k d) ∙ e) (same k next)
+
+  pub in-order : (m : ℕ) → next < m → keep (has rest) (placesTo m) ≡ next ∷ keep (has after) (placesTo m)
+  in-order m l = first-place (has rest) (has after) next has-next (lowest-first width rest) gone stays m l
+
+-- A set sifted place by place, or a mask control by control: those of `rest` have not been looked at.
+pub record Sifting (width set : ℕ) (out : ℕ → Bool) (left rest : ℕ) : Type 0 where
+  pub small : rest < 2 ^ width
+  pub within : (k : ℕ) → has rest k ≡ true → has set k ≡ true
+  pub so-far : (k : ℕ) → has left k ≡ (has set k && (not (out k) || has rest k))
+
+pub none-sifted : (width set : ℕ) (out : ℕ → Bool) → set < 2 ^ width → Sifting width set out set set
+none-sifted width set out l = record { small = l; within = λ k e. e; so-far = λ k. go k (has set k) (out k) refl }
+  where
+    go : (k : ℕ) (a b : Bool) → has set k ≡ a → a ≡ (a && (not b || has set k))
+    go k true true p = sym (rw p)
+    go k true false p = refl
+    go k false b p = refl
+
+-- of a mask only the controls that another has need be looked at
+pub shared-only : (mask other : ℕ) → mask < 2 ^ 32 → Sifting 32 mask (has other) mask (bitAnd mask other)
+shared-only mask other l = record {
+  small = omega (arith, and-le-l mask other);
+  within = λ k e. each-true _ _ (sym (has-and mask other k) ∙ e) .0;
+  so-far = λ k. rw (has-and mask other k) (go (has mask k) (has other k));
+}
+  where
+    go : (a b : Bool) → a ≡ (a && (not b || (a && b)))
+    go true true = refl
+    go true false = refl
+    go false b = refl
+
+module _ {width set : ℕ} {out : ℕ → Bool} {left rest : ℕ} (c : Sifting width set out left rest) (some : rest ≡ 0 → ⊥) where
+  abbrev at : ℕ
+  at = trailingZeros width rest
+
+  abbrev later : ℕ
+  later = after width rest (c .small) some
+
+  left-there : has left at ≡ true
+  left-there = c .so-far at ∙ (rw (c .within at (has-next width rest (c .small) some), has-next width rest (c .small) some, or-true))
+
+  module _ (new : ℕ) (h : has new at ≡ (has left at && not (out at))) (o : (k : ℕ) → (k ≡ at → ⊥) → has new k ≡ has left k) where
+    sifted : Sifting width set out new later
+    sifted = record {
+      small = omega (arith, c .small, fewer width rest (c .small) some);
+      within = λ k e. c .within k (still width rest (c .small) some k e);
+      so-far = λ k. ⊎-elim (λ q. rw q here) (λ d. o k d ∙ c .so-far k ∙ (rw (stays width rest (c .small) some k d))) (same k at);
+    }
+      where
+        here : has new at ≡ (has set at && (not (out at) || has later at))
+        here = h ∙ (rw (left-there, c .within at (has-next width rest (c .small) some), gone width rest (c .small) some) (sym (or-false (not (out at)))))
+
+  pub sift-out : out at ≡ true → Sifting width set out (cut left (2 ^ at)) later
+  sift-out e = sifted _ (cut-same left at ∙ (rw (e, and-false))) (λ k d. cut-other left at k d)
+
+  -- the same where the bit is flipped
+  pub sift-flip : out at ≡ true → Sifting width set out (bitXor left (2 ^ at)) later
+  sift-flip e = rw (flipped left at left-there) (sift-out e)
+
+  pub sift-by : out at ≡ false → Sifting width set out left later
+  sift-by e = sifted left (rw (e, and-true)) (λ k d. refl)
+
+pub all-sifted : {width set : ℕ} {out : ℕ → Bool} {left rest : ℕ} → Sifting width set out left rest → rest ≡ 0 → (k : ℕ) → has left k ≡ (has set k && not (out k))
+all-sifted {width} {set} {out} c e k = c .so-far k ∙ (rw (e, has-none, or-false))
+
+pub all-cut : (mask other : ℕ) {left rest : ℕ} → Sifting 32 mask (has other) left rest → rest ≡ 0 → left ≡ cut mask other
+all-cut mask other {left} c e = has-ext left (cut mask other) (λ k. let q = all-sifted c e k ∙ sym (has-cut mask other k) in (λ h. sym q ∙ h, λ h. q ∙ h))
+
+-- A set built place by place.
+
+module _ (P : ℕ → Type 0) (i set : ℕ) (s : SetOf i P set) where
+  pub set-more : P i → SetOf (i + 1) P (bitOr set (2 ^ i))
+  unfolding join
+  set-more p j = rw (has-join set (2 ^ i) j) (
+    λ e. go (has set j) refl e,
+    λ q. ⊎-elim (λ z. rw (s j .1 (z, q .1))) (λ z. ap (λ b. has set j || b) (ap (has (2 ^ i)) z ∙ has-self i) ∙ or-true (has set j)) (below-or j (q .0)),
+  )
+    where
+      below-or : (j : ℕ) → j < i + 1 → (j < i) ⊎ (j ≡ i)
+      below-or j l = ⊎-elim (λ z. inr z) (λ z. inl z) (eq-or-lt-of-le (omega arith))
+
+      go : (b : Bool) → has set j ≡ b → (b || has (2 ^ i) j) ≡ true → (j < i + 1) × P j
+      go true e f = let q = s j .0 e in (omega (arith, q .0), q .1)
+      go false e f = let q = has-only i j f in (omega arith, rw q p)
+
+  pub set-skip : (P i → ⊥) → SetOf (i + 1) P set
+  set-skip n j = (
+    λ e. let q = s j .0 e in (omega (arith, q .0), q .1),
+    λ q. s j .1 (⊎-elim (λ z. absurd (n (rw z at (q .1)))) (λ z. z) (eq-or-lt-of-le (omega arith)), q .1),
+  )
+
+-- there is a set of the holders
+pub some-holders : (w : List (List ℕ)) (n : ℕ) → (set : ℕ) × Holders n w set
+some-holders w zero = (0, λ i. (λ e. not-has 0 i refl e, λ q. absurd (omega (arith, q .0))))
+some-holders w (suc n) = go (some-holders w n) (eqb (maskAt w n) 0) refl
+  where
+    go : (set : ℕ) × Holders n w set → (b : Bool) → eqb (maskAt w n) 0 ≡ b → (set : ℕ) × Holders (suc n) w set
+    go r true e = (r .0, rw (← add-one n) (set-skip (λ i. maskAt w i ≡ 0 → ⊥) n (r .0) (r .1) (λ f. f (eqb-true (maskAt w n) 0 e))))
+    go r false e = (bitOr (r .0) (2 ^ n), rw (← add-one n) (set-more (λ i. maskAt w i ≡ 0 → ⊥) n (r .0) (r .1) (eqb-false (maskAt w n) 0 e)))
+
+-- The set of holders, when one place gets another mask.
+
+module _ (holding i mask : ℕ) where
+  cut-there : (j : ℕ) → has (cut holding (2 ^ i)) j ≡ cond (eqb j i) false (has holding j)
+  cut-there j = go (eqb j i) refl
+    where
+      go : (b : Bool) → eqb j i ≡ b → has (cut holding (2 ^ i)) j ≡ cond b false (has holding j)
+      go true e = let q = eqb-true j i e in rw q (cut-same holding i)
+      go false e = cut-other holding i j (eqb-false j i e)
+
+  pub counted-out : mask ≡ 0 → Counted i mask holding (bitXor holding (bitAnd holding (2 ^ i)))
+  unfolding cut
+  counted-out e = record { each = λ j. rw (eq-eqb mask 0 e) (cut-there j) }
+
+  pub counted-in : (mask ≡ 0 → ⊥) → Counted i mask holding (bitOr (bitXor holding (bitAnd holding (2 ^ i))) (2 ^ i))
+  unfolding cut join
+  counted-in d = record { each = λ j. rw (ne-eqb mask 0 d) (has-join (cut holding (2 ^ i)) (2 ^ i) j ∙ ap (λ b. b || has (2 ^ i) j) (cut-there j) ∙ go j (eqb j i) refl) }
+    where
+      go : (j : ℕ) (b : Bool) → eqb j i ≡ b → (cond b false (has holding j) || has (2 ^ i) j) ≡ cond b true (has holding j)
+      go j true e = let q = eqb-true j i e in rw q (has-self i)
+      go j false e = rw (not-only i j (eqb-false j i e), or-false)
+
+  pub holders-kept : {n : ℕ} {old new : List (List ℕ)} {after : ℕ} → Holders n old holding → i < n → Masked i mask old new → Counted i mask holding after → Holders n new after
+  holders-kept {n} {old} {new} {after} h l m c j = ⊎-elim (λ e. rw e here) (λ d. there d) (same j i)
+    where
+      is : maskAt new i ≡ mask
+      is = ap (λ x. x .held) (m .here)
+
+      here : (has after i ≡ true) ↔ ((i < n) × (maskAt new i ≡ 0 → ⊥))
+      here = (
+        λ e. (l, λ z. both (has after i) e (c .each i ∙ (rw (eq-eqb i i refl, eq-eqb mask 0 (sym is ∙ z))))),
+        λ q. c .each i ∙ (rw (eq-eqb i i refl, ne-eqb mask 0 (λ z. q .1 (is ∙ z)))),
+      )
+
+      there : (j ≡ i → ⊥) → (has after j ≡ true) ↔ ((j < n) × (maskAt new j ≡ 0 → ⊥))
+      there d =
+          let e : has after j ≡ has holding j = c .each j ∙ (rw (ne-eqb j i d)) in
+          let f : maskAt new j ≡ maskAt old j = ap (λ x. entryOf x .held) (m .others j d) in
+          (λ p. let q = h j .0 (sym e ∙ p) in (q .0, λ z. q .1 (sym f ∙ z)), λ q. e ∙ h j .1 (q .0, λ z. q .1 (f ∙ z)))
