@@ -1,23 +1,26 @@
 -- The loop over moments: what was passed and what is left make up the whole, and the slots say where the events stand.
 use mathlib.Core.Path.{_≡_, refl, sym, ap, _∙_, subst}
-use mathlib.Core.Logic.{_⊎_, inl, inr, ⊎-elim}
+use mathlib.Core.Logic.{_⊎_, inl, inr}
 use Prim.Native.Nat.{ℕ, zero, suc, _+_, _-_, _*_, _/_, _<_, _≤_}
-use mathlib.Core.Bool.{Bool, true, false}
+use mathlib.Core.Bool.{Bool, true, false, not, _||_, or-true}
 use mathlib.Core.List.{List, [], _∷_, _++_, map, map-map, append-assoc, append-nil}
-use native.Mathlib.Omega.{arith}
+use native.Mathlib.Omega.{arith, by-contra}
 use native.Mathlib.Nat.{lt-of-not-le}
+use lib.Bits.{bitOr}
 use lib.Dec.{ltb}
 use lib.ListN.{length, getD, length-append}
-use borrow.Author.Tests.{lt-ltb, ltb-true, ltb-false}
+use borrow.Author.Tests.{lt-ltb, le-ltb, ltb-true, ltb-false}
 use Rattle.rules.specs.declared.Entry.{Entry}
 use Rattle.rules.specs.declared.Program.{Program}
 use Rattle.rules.specs.Lists.{keep, In, All, Pairwise}
-use Rattle.rules.specs.Records.{has, idOf, noEntry, lastClock, view, pad, mostRows}
-use Rattle.rules.specs.Holding.{heldAt, holdingAt, withHolding, endOf}
+use Rattle.rules.specs.Records.{has, join, idOf, noEntry, lastClock, view, pad, mostRows}
+use Rattle.rules.specs.Holding.{holdingAt, withHolding, endOf}
 use Rattle.rules.specs.Rows.{Row, rowsAt}
 use Rattle.rules.specs.Moments.{lasts, advance, passed}
 use Rattle.rules.specs.Bytes.{bytes, rowsSize}
-use Rattle.rules.proofs.ListLaws.{keep-all, in-keep, map-cong}
+use Rattle.rules.proofs.ListLaws.{keep-all, keep-cong, keep-map, in-keep, map-cong}
+use Rattle.rules.proofs.Tests.{both}
+use Rattle.rules.proofs.Masks.{has-join, has-none, not-has}
 use Rattle.rules.proofs.SoundState.{Sound}
 use Rattle.rules.proofs.Bound.{few-rows}
 use Rattle.rules.proofs.Claims.{claim-early, claim-ended, claim-cancelled, nothing-held}
@@ -28,7 +31,7 @@ use Rattle.calls.specs.declared.clock.Due.{Due}
 use Rattle.calls.specs.declared.clock.Standing.{Standing}
 use Rattle.calls.specs.Slots.{slotState, scheduleOf, InUse, Ready}
 use Rattle.calls.specs.Sets.{eventAt, maskAt, placesTo, Numbered, SetOf, Holders, MasksOnly}
-use Rattle.calls.specs.Agenda.{nothing, Agenda, Lasting, TakenTo}
+use Rattle.calls.specs.Agenda.{nothing, Agenda, TakenTo}
 use Rattle.calls.specs.Moment.{Distinct, OneHolderIn, Before, Ahead, Past}
 use Rattle.calls.specs.Written.{Written}
 use Rattle.calls.specs.Advanced.{Passes, Advances}
@@ -96,7 +99,7 @@ module _ {d : Head} {w : List (List ℕ)} (r : Ready d w) where
 
 -- After the moments up to a clock.
 
-pub record Going (d : Head) (w : List (List ℕ)) (to : ℕ) (agenda old : List ℕ) (now : List (List ℕ)) (rows : List ℕ) (s : Standing) (clock k : ℕ) : Type 0 where
+pub record Going (d : Head) (w : List (List ℕ)) (to : ℕ) (agenda old : List ℕ) (now : List (List ℕ)) (rows : List ℕ) (s : Standing) (ended clock k : ℕ) : Type 0 where
   pub ready : Ready d w
   pub planned : Agenda (d .clock) to (d .count) w agenda
   pub last : to ≤ lastClock
@@ -108,6 +111,7 @@ pub record Going (d : Head) (w : List (List ℕ)) (to : ℕ) (agenda old : List 
   pub holders : Holders (d .count) now (s .holding)
   pub before : (i : ℕ) → i < d .count → Before (clock + 1) (eventAt now i)
   pub apart : OneHolderIn d now
+  pub over : SetOf (d .count) (λ i. endOf (eventAt now i) ≤ clock) ended
   -- the rows so far
   pub done : List Row
   pub state : Sound (stateIn (d .programs) (slotState d now .entries) clock)
@@ -116,7 +120,7 @@ pub record Going (d : Head) (w : List (List ℕ)) (to : ℕ) (agenda old : List 
   pub written : Written old 0 rows (s .rows) done
 
 pub start : {d : Head} {w : List (List ℕ)} {to : ℕ} {agenda old : List ℕ} {holding : ℕ} → Ready d w → Agenda (d .clock) to (d .count) w agenda → d .clock ≤ to → to ≤ lastClock → length old ≡ rowsSize
-    → Holders (d .count) w holding → Going d w to agenda old w old (record { holding = holding; rows = 0 }) (d .clock) 0
+    → Holders (d .count) w holding → Going d w to agenda old w old (record { holding = holding; rows = 0 }) 0 (d .clock) 0
 start {d} {w} {to} {agenda} {old} r g h l size holders = record {
   ready = r;
   planned = g;
@@ -129,13 +133,14 @@ start {d} {w} {to} {agenda} {old} r g h l size holders = record {
   holders = holders;
   before = at-first r;
   apart = one-holder r;
+  over = λ i. (λ e. not-has 0 i refl e, λ q. absurd (omega (arith, q .1, ends-later r i (q .0))));
   done = [];
   state = subst Sound (sym (view-of r) ∙ standing r) (sound-of r);
   split = ap (λ v. advance (to - d .clock) v) (standing r);
   written = no-row old 0;
 }
 
-module _ {d : Head} {w : List (List ℕ)} {to : ℕ} {agenda old : List ℕ} {now : List (List ℕ)} {rows : List ℕ} {s : Standing} {clock k : ℕ} (g : Going d w to agenda old now rows s clock k) where
+module _ {d : Head} {w : List (List ℕ)} {to : ℕ} {agenda old : List ℕ} {now : List (List ℕ)} {rows : List ℕ} {s : Standing} {ended clock k : ℕ} (g : Going d w to agenda old now rows s ended clock k) where
   abbrev ps : List Program
   ps = d .programs
 
@@ -151,6 +156,9 @@ module _ {d : Head} {w : List (List ℕ)} {to : ℕ} {agenda old : List ℕ} {no
   same-begin : (i : ℕ) → eventAt now i .begins ≡ eventAt w i .begins
   same-begin i = ap (λ h. h .begins) (g .masks .each i)
 
+  same-stopped : (i : ℕ) → eventAt now i .cancelled ≡ eventAt w i .cancelled
+  same-stopped i = ap (λ h. h .cancelled) (g .masks .each i)
+
   module _ (t : ℕ) (e : t ≡ getD agenda k 0 / 128) where
     pub next-later : clock < t
     next-later = later (g .planned) (g .ready .used .few) (g .last) (g .reached) (g .from) (g .order) e
@@ -158,8 +166,8 @@ module _ {d : Head} {w : List (List ℕ)} {to : ℕ} {agenda old : List ℕ} {no
     -- Nothing begins or ends before the next moment.
 
     module _ (u : ℕ) (b : u < t) (c : u ≤ to) where
-      clear-start : (i : ℕ) → i < d .count → clock < eventAt w i .begins → u < eventAt w i .begins
-      clear-start i l h = lt-of-not-le (λ m. omega (arith, no-start (g .planned) (g .ready .used .few) (g .last) (g .reached) (g .from) (g .order) e i l h (omega arith)))
+      clear-start : (i : ℕ) → i < d .count → eventAt w i .cancelled ≡ false → clock < eventAt w i .begins → u < eventAt w i .begins
+      clear-start i l o h = lt-of-not-le (λ m. omega (arith, no-start (g .planned) (g .ready .used .few) (g .last) (g .reached) (g .from) (g .order) e i l o h (omega arith)))
 
       clear-end : (i : ℕ) → i < d .count → clock < endOf (eventAt w i) → u < endOf (eventAt w i)
       clear-end i l h = lt-of-not-le (λ m. omega (arith, no-end (g .planned) (g .ready .used .few) (g .last) (g .reached) (g .from) (g .order) e i l h (omega arith)))
@@ -175,13 +183,13 @@ module _ {d : Head} {w : List (List ℕ)} {to : ℕ} {agenda old : List ℕ} {no
 
           idle-at : (i : ℕ) → i < d .count → clock < endOf (eventAt now i) → Idle clock (u - clock) (eventAt now i)
           idle-at i l h = record {
-            begins = rw (there, same-begin i) (go (ltb clock (eventAt w i .begins)) refl);
+            begins = λ o. rw (there, same-begin i) (go (sym (same-stopped i) ∙ o) (ltb clock (eventAt w i .begins)) refl);
             ends = rw (there, same-end i) (clear-end i l (rw (same-end i) at h));
           }
             where
-              go : (x : Bool) → ltb clock (eventAt w i .begins) ≡ x → (eventAt w i .begins ≤ clock) ⊎ (u < eventAt w i .begins)
-              go true y = inr (clear-start i l (ltb-true clock (eventAt w i .begins) y))
-              go false y = inl (ltb-false clock (eventAt w i .begins) y)
+              go : eventAt w i .cancelled ≡ false → (x : Bool) → ltb clock (eventAt w i .begins) ≡ x → (eventAt w i .begins ≤ clock) ⊎ (u < eventAt w i .begins)
+              go o true y = inr (clear-start i l o (ltb-true clock (eventAt w i .begins) y))
+              go o false y = inl (ltb-false clock (eventAt w i .begins) y)
 
     -- A moment up to the reading.
 
@@ -224,12 +232,12 @@ module _ {d : Head} {w : List (List ℕ)} {to : ℕ} {agenda old : List ℕ} {no
           record {
             short = b .short;
             early = λ h. b .early (omega (arith, next-later));
-            over = λ h. b .over (rw (same-end i) (ended (rw (same-end i) at h)));
+            over = λ h. b .over (rw (same-end i) (gone-by (rw (same-end i) at h)));
             stopped = b .stopped;
           }
         where
-          ended : endOf (eventAt w i) < t → endOf (eventAt w i) < clock + 1
-          ended h = lt-of-not-le (λ m. omega (arith, clear-end (endOf (eventAt w i)) h (omega arith) i l (omega arith)))
+          gone-by : endOf (eventAt w i) < t → endOf (eventAt w i) < clock + 1
+          gone-by h = lt-of-not-le (λ m. omega (arith, clear-end (endOf (eventAt w i)) h (omega arith) i l (omega arith)))
 
       abbrev due : Due
       due = record { ending = p .places; starting = q .places }
@@ -245,7 +253,7 @@ module _ {d : Head} {w : List (List ℕ)} {to : ℕ} {agenda old : List ℕ} {no
         before = before-it;
         apart = g .apart;
         ending = λ i. rw (same-end i) (ending (g .planned) (g .ready .used .few) (g .last) (g .reached) (g .from) (g .order) e soon u i);
-        starting = λ i. rw (same-begin i) (starting (g .planned) (g .ready .used .few) (g .last) (g .reached) (g .from) (g .order) e soon u v i);
+        starting = λ i. rw (same-begin i, same-stopped i) (starting (g .planned) (g .ready .used .few) (g .last) (g .reached) (g .from) (g .order) e soon u v i);
         size = g .written .size ∙ g .size;
         room = room;
       }
@@ -261,6 +269,25 @@ module _ {d : Head} {w : List (List ℕ)} {to : ℕ} {agenda old : List ℕ} {no
             ∙ sym (map-map (λ h. withHolding h (holdingAt ps t hs h)) (eventAt now) (placesTo (d .count)))
             ∙ ap (map (λ h. withHolding h (holdingAt ps t hs h))) (sym (us-are d now few))
 
+        -- what has ended by now had ended, or ends
+        over-next : SetOf (d .count) (λ i. endOf (eventAt w i) ≤ t) (bitOr ended (p .places))
+        unfolding join
+        over-next i = rw (has-join ended (p .places) i) (to-now (has ended i) refl, from-now)
+          where
+            ends-now : SetOf (d .count) (λ i. endOf (eventAt w i) ≡ t) (p .places)
+            ends-now = ending (g .planned) (g .ready .used .few) (g .last) (g .reached) (g .from) (g .order) e soon u
+
+            to-now : (b : Bool) → has ended i ≡ b → (b || has (p .places) i) ≡ true → (i < d .count) × (endOf (eventAt w i) ≤ t)
+            to-now true f y = let z = g .over i .0 f in (z .0, omega (arith, same-end i, z .1, next-later))
+            to-now false f y = let z = ends-now i .0 y in (z .0, omega (arith, z .1))
+
+            from-now : (i < d .count) × (endOf (eventAt w i) ≤ t) → (has ended i || has (p .places) i) ≡ true
+            from-now y = go (ltb clock (endOf (eventAt w i))) refl
+              where
+                go : (b : Bool) → ltb clock (endOf (eventAt w i)) ≡ b → (has ended i || has (p .places) i) ≡ true
+                go true f = ap (λ z. has ended i || z) (ends-now i .1 (y .0, omega (arith, y .1, no-end (g .planned) (g .ready .used .few) (g .last) (g .reached) (g .from) (g .order) e i (y .0) (ltb-true clock (endOf (eventAt w i)) f) (omega (arith, y .1))))) ∙ or-true (has ended i)
+                go false f = rw (g .over i .1 (y .0, omega (arith, same-end i, ltb-false clock (endOf (eventAt w i)) f)))
+
         -- who claims nothing has nothing
         before-next : (i : ℕ) → i < d .count → Before (t + 1) (eventAt new i)
         before-next i l =
@@ -275,7 +302,7 @@ module _ {d : Head} {w : List (List ℕ)} {to : ℕ} {agenda old : List ℕ} {no
               stopped = λ a. x .settled i l ∙ nothing-held ps t hs h (claim-cancelled t h (sym stopped ∙ a));
             }
 
-        pub step : Going d w to agenda old new after r t (q .next)
+        pub step : Going d w to agenda old new after r (bitOr ended (p .places)) t (q .next)
         step = record {
           ready = g .ready;
           planned = g .planned;
@@ -288,6 +315,7 @@ module _ {d : Head} {w : List (List ℕ)} {to : ℕ} {agenda old : List ℕ} {no
           holders = x .holders;
           before = before-next;
           apart = x .apart;
+          over = λ i. rw (ap endOf (x .masks .each i), same-end i) (over-next i);
           done = g .done ++ rowsAt ps t hs;
           state = subst (λ us. Sound (stateIn ps us t)) (sym entries-next) (sound-moment ps hs clock (t - 1 - clock) (g .state) in-time quiet t whole (omega (arith, g .last)));
           split = split-next ∙ ap (λ us. onward (record { state = stateIn ps us t; rows = g .done ++ rowsAt ps t hs }) (advance (to - t) (stateIn ps us t))) (sym entries-next);
@@ -303,9 +331,13 @@ module _ {d : Head} {w : List (List ℕ)} {to : ℕ} {agenda old : List ℕ} {no
           ∙ ap (onward (record { state = stateIn ps hs clock; rows = g .done })) (quiet-to ps hs clock (to - clock) (g .state) (omega (arith, g .order, g .last)) (still to h (omega arith) (g .order)) to (omega (arith, g .order)))
           ∙ ap (λ rs. record { state = stateIn ps hs to; rows = rs }) (append-nil (g .done))
 
-      pub stop : Passes d w to rows (s .rows) now
+      pub stop : Passes d w to rows ended (s .rows) now
       stop = record {
         masks = g .masks;
+        over = λ i. (
+          λ f. let z = g .over i .0 f in (z .0, omega (arith, z .1, g .order)),
+          λ y. g .over i .1 (y .0, by-contra (endOf (eventAt now i)) clock (λ z. omega (arith, y .1, same-end i, clear-end to h (omega arith) i (y .0) (omega (arith, same-end i, z))))),
+        );
         state = ap (λ m. m .state) there;
         rows = omega (arith, g .written .count, ap (λ m. length (m .rows)) there);
         written = g .written .front ∙ ap (λ m. bytes (m .rows)) (sym there);
@@ -316,21 +348,28 @@ module _ {d : Head} {w : List (List ℕ)} {to : ℕ} {agenda old : List ℕ} {no
 
 module _ {d : Head} {w : List (List ℕ)} {to : ℕ} (r : Ready d w) where
   -- an agenda of nothing
-  pub none-due : {agenda rows : List ℕ} → Agenda (d .clock) to (d .count) w agenda → d .clock ≤ to → to ≤ lastClock → length rows ≡ rowsSize → getD agenda 0 0 ≡ nothing → Passes d w to rows 0 w
+  pub none-due : {agenda rows : List ℕ} → Agenda (d .clock) to (d .count) w agenda → d .clock ≤ to → to ≤ lastClock → length rows ≡ rowsSize → getD agenda 0 0 ≡ nothing → Passes d w to rows 0 0 w
   none-due {agenda} g h l size e = stop (start r g h l size (some-holders w (d .count) .1)) (getD agenda 0 0 / 128) refl (omega (arith, e))
 
-  module _ {rows : List ℕ} {count : ℕ} {mid : List (List ℕ)} (p : Passes d w to rows count mid) where
-    pub lasting-still : (from : ℕ) → Lasting to from w → Lasting to from mid
-    lasting-still from f i l = rw (ap endOf (p .masks .each i)) (f i l)
-
+  module _ {rows : List ℕ} {ended count : ℕ} {mid : List (List ℕ)} (p : Passes d w to rows ended count mid) where
     pub in-use : InUse (d .count) mid
     in-use = record { few = r .used .few; size = p .masks .size }
 
-    pub advanced : {k : ℕ} {next : List (List ℕ)} → Finished to (d .count) mid next k → Advances d w to rows (record { head = record { clock = to; count = k; programs = d .programs }; rows = count }) next
+    -- who stays lasts
+    lasting : map (eventAt mid) (keep (λ i. not (has ended i)) (placesTo (d .count))) ≡ keep (lasts to) (slotState d mid .entries)
+    lasting =
+        ap (map (eventAt mid)) (keep-cong (λ i. not (has ended i)) (λ i. lasts to (eventAt mid i)) (placesTo (d .count)) (λ i m. go i (place-below (d .count) i m) (has ended i) refl))
+        ∙ sym (keep-map (lasts to) (eventAt mid) (placesTo (d .count))) ∙ ap (keep (lasts to)) (sym (us-are d mid (omega (arith, in-use .few, in-use .size))))
+      where
+        go : (i : ℕ) → i < d .count → (b : Bool) → has ended i ≡ b → not b ≡ lasts to (eventAt mid i)
+        go i l true e = sym (le-ltb to (endOf (eventAt mid i)) (p .over i .0 e .1))
+        go i l false e = sym (lt-ltb to (endOf (eventAt mid i)) (lt-of-not-le (λ m. both (has ended i) (p .over i .1 (l, m)) e)))
+
+    pub advanced : {k : ℕ} {next : List (List ℕ)} → Finished (d .count) ended mid next k → Advances d w to rows (record { head = record { clock = to; count = k; programs = d .programs }; rows = count }) next
     advanced f = record {
       used = f .used;
       advanced = record {
-        schedule = ap (λ es. pad (record { clock = to; programs = d .programs; entries = es })) (f .lasting) ∙ ap pad (sym (p .state));
+        schedule = ap (λ es. pad (record { clock = to; programs = d .programs; entries = es })) (f .lasting ∙ lasting) ∙ ap pad (sym (p .state));
         rows = p .rows;
         written = p .written;
         size = p .size;
@@ -338,12 +377,8 @@ module _ {d : Head} {w : List (List ℕ)} {to : ℕ} (r : Ready d w) where
     }
 
     -- nothing has ended
-    pub none-ended : Lasting to (d .count) w → Finished to (d .count) mid mid (d .count)
-    none-ended f =
-        let few : d .count ≤ length mid = omega (arith, in-use .few, in-use .size) in
-        record {
-          used = in-use;
-          lasting = sym (keep-all (lasts to) (slotState d mid .entries) (λ o m.
-              let q = in-event d mid few o m in
-              subst (λ h. lasts to h ≡ true) (q .2) (lt-ltb to (endOf (eventAt mid (q .0))) (lasting-still (d .count) f (q .0) (q .1)))));
-        }
+    pub none-ended : ended ≡ 0 → Finished (d .count) ended mid mid (d .count)
+    none-ended e = record {
+      used = in-use;
+      lasting = us-are d mid (omega (arith, in-use .few, in-use .size)) ∙ ap (map (eventAt mid)) (sym (keep-all (λ i. not (has ended i)) (placesTo (d .count)) (λ i m. rw (e, has-none))));
+    }

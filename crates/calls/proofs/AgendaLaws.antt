@@ -4,13 +4,14 @@ use mathlib.Core.Logic.{_↔_, inl, inr, ⊎-elim}
 use Prim.Native.Nat.{ℕ, _+_, _*_, _/_, _%_, _<_, _≤_}
 use native.Mathlib.Nat.{lt-of-not-le}
 use native.Mathlib.Omega.{arith, by-contra}
-use mathlib.Core.Bool.{true}
+use mathlib.Core.Bool.{Bool, true, false}
 use mathlib.Core.List.{List, []}
 use lib.ListN.{getD}
 use Rattle.rules.specs.Records.{has, mostEvents, lastClock}
 use Rattle.rules.specs.Holding.{endOf}
 use Rattle.calls.specs.declared.agenda.Taken.{Taken}
 use Rattle.calls.specs.Slots.{entryOf}
+use Rattle.calls.specs.Sets.{SetOf}
 use Rattle.calls.specs.Agenda.{mostChanges, agendaSize, Change, Planned, Agenda, Stops, TakenTo}
 
 -- the numbers below the bound stand before k, the others from k on
@@ -26,6 +27,9 @@ Reached a c k = Divided a ((c + 1) * 128) k
 -- start and end of the event in slot i
 abbrev beginOf : List (List ℕ) → ℕ → ℕ
 beginOf w i = entryOf (getD w i []) .begins
+
+abbrev stoppedOf : List (List ℕ) → ℕ → Bool
+stoppedOf w i = entryOf (getD w i []) .cancelled
 
 abbrev finishOf : List (List ℕ) → ℕ → ℕ
 finishOf w i = endOf (entryOf (getD w i []))
@@ -82,8 +86,8 @@ module _ {clock to n : ℕ} {w : List (List ℕ)} {a : List ℕ} (g : Agenda clo
     not-before : (x : ℕ) → Planned a x → (c + 1) * 128 ≤ x → getD a k 0 ≤ x
     not-before x p l = omega (arith, p .2, g .ascends k (p .0) (by-contra k (p .0) (λ h. omega (arith, r .past (p .0) h, p .2))) (p .1))
 
-    pub no-start : (i : ℕ) → i < n → c < beginOf w i → beginOf w i ≤ to → t ≤ beginOf w i
-    no-start i l p q = omega (arith, not-before _ (g .all i l _ (inl (omega arith, q, refl))) (omega arith))
+    pub no-start : (i : ℕ) → i < n → stoppedOf w i ≡ false → c < beginOf w i → beginOf w i ≤ to → t ≤ beginOf w i
+    no-start i l o p q = omega (arith, not-before _ (g .all i l _ (inl (o, omega arith, q, refl))) (omega arith))
 
     pub no-end : (i : ℕ) → i < n → c < finishOf w i → finishOf w i ≤ to → t ≤ finishOf w i
     no-end i l p q = omega (arith, not-before _ (g .all i l _ (inr (q, refl))) (omega arith))
@@ -109,7 +113,7 @@ module _ {clock to n : ℕ} {w : List (List ℕ)} {a : List ℕ} (g : Agenda clo
         pub stops-starts : Stops a (p .next) (t * 128 + 128)
         stops-starts = (mostChanges, omega (arith, u .inside), omega arith, omega (arith, g .ends))
 
-        pub ending : (i : ℕ) → (has (p .places) i ≡ true) ↔ ((i < n) × (finishOf w i ≡ t))
+        pub ending : SetOf n (λ i. finishOf w i ≡ t) (p .places)
         ending i = (
           λ h. let o = between reached u i .0 h in
               let v = of-event (o .0) i (o .1) (omega (arith, o .3)) (o .4) in
@@ -122,13 +126,13 @@ module _ {clock to n : ℕ} {w : List (List ℕ)} {a : List ℕ} (g : Agenda clo
         started = after reached u (omega arith)
 
         module _ {s : Taken} (v : TakenTo a (p .next) (t * 128 + 128) s) where
-          pub starting : (i : ℕ) → (has (s .places) i ≡ true) ↔ ((i < n) × (beginOf w i ≡ t))
+          pub starting : SetOf n (λ i. (beginOf w i ≡ t) × (stoppedOf w i ≡ false)) (s .places)
           starting i = (
             λ h. let o = between started v i .0 h in
                 let q = of-event (o .0) i (o .1) (o .3) (o .4) in
-                (q .0, ⊎-elim (λ f. omega arith) (λ f. absurd (omega arith)) (q .1)),
-            λ h. let o = g .all i (h .0) _ (inl (omega (arith, h .1, later), omega (arith, h .1), refl)) in
-                between started v i .1 (o .0, o .1, omega (arith, o .2, h .1), omega (arith, o .2, h .1), omega (arith, o .2)),
+                (q .0, ⊎-elim (λ f. (omega arith, f .0)) (λ f. absurd (omega arith)) (q .1)),
+            λ h. let o = g .all i (h .0) _ (inl (h .1 .1, omega (arith, h .1 .0, later), omega (arith, h .1 .0), refl)) in
+                between started v i .1 (o .0, o .1, omega (arith, o .2, h .1 .0), omega (arith, o .2, h .1 .0), omega (arith, o .2)),
           )
 
           pub reach-next : Reached a t (s .next)

@@ -136,3 +136,12 @@ module _ {rank : ℕ → Rank} {n : ℕ} {claims kept : ℕ → ℕ} (s : Settle
 
     pub one-more : Settled rank n more new
     one-more = record { each = λ j b k. ⊎-elim (λ z. rw z (for-own k)) (λ z. for-others j k b z) (same j i) }
+
+-- claims that are the same at the first n places
+pub settled-on : {rank : ℕ → Rank} {n : ℕ} {a b kept : ℕ → ℕ} → Settled rank n a kept → ((i : ℕ) → i < n → a i ≡ b i) → Settled rank n b kept
+settled-on {rank} {n} {a} {b} {kept} s e = record {
+  each = λ i l k. (
+    λ h. let q = s .each i l k .0 h in (ap (λ m. has m k) (sym (e i l)) ∙ q .0, λ o m f. q .1 o m (ap (λ m. has m k) (e o m) ∙ f)),
+    λ q. s .each i l k .1 (ap (λ m. has m k) (e i l) ∙ q .0, λ o m f. q .1 o m (ap (λ m. has m k) (sym (e o m)) ∙ f)),
+  );
+}

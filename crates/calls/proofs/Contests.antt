@@ -1,26 +1,24 @@
 -- An event contends with those that hold something, one after the other: those of the rest have not been met yet.
-use mathlib.Core.Path.{_≡_, refl, sym, ap, ap₂, _∙_}
-use mathlib.Core.Logic.{_↔_, _⊎_, inl, inr, ⊎-elim}
-use Prim.Native.Nat.{ℕ, _^_, _<_}
-use native.Mathlib.Omega.{arith}
+use mathlib.Core.Path.{_≡_, refl, sym, ap, _∙_}
+use mathlib.Core.Logic.{_↔_, ⊎-elim}
+use Prim.Native.Nat.{ℕ, _<_}
 use mathlib.Core.Bool.{Bool, true, false, cond, not, _&&_}
-use mathlib.Core.List.{List, []}
+use mathlib.Core.List.{List}
 use lib.Bits.{bitAnd}
-use lib.Count.{trailingZeros}
 use lib.Dec.{eqb}
 use borrow.Author.Tests.{eqb-true, eqb-false}
-use Rattle.rules.specs.declared.Event.{Event}
 use Rattle.rules.specs.declared.Program.{Program}
 use Rattle.rules.specs.Records.{has, cut}
 use Rattle.rules.specs.Holding.{Rank, better, rankOf, withHolding}
 use Rattle.rules.proofs.Tests.{both, each-true}
 use Rattle.rules.proofs.Masks.{has-and, has-cut, has-none, not-has, cut-none, cut-apart}
 use Rattle.calls.specs.declared.held.Head.{Head}
+use Rattle.calls.specs.declared.bits.Next.{Next}
 use Rattle.calls.specs.Slots.{entryOf}
-use Rattle.calls.specs.Sets.{eventAt, maskAt, rankIn, Holders, Masked, Counted, MasksOnly}
-use Rattle.calls.specs.Settled.{Unbeaten, Contends, Comes, Contended}
+use Rattle.calls.specs.Sets.{eventAt, maskAt, rankIn, Lowest, Holders, Masked, Counted, MasksOnly}
+use Rattle.calls.specs.Settled.{Comes, Contended}
 use Rattle.calls.proofs.Contending.{same}
-use Rattle.calls.proofs.Sets.{after, has-next, fewer, gone, stays, still, holders-kept}
+use Rattle.calls.proofs.Sets.{still, or-lowest, holders-kept}
 
 -- Masks changed, one after the other.
 
@@ -51,7 +49,6 @@ against rank i claim masks j = cond (better (rank j) (rank i)) (masks j) (cut (m
 
 pub record Contesting (d : Head) (i : ℕ) (old : List (List ℕ)) (holding : ℕ) (now : List (List ℕ)) (left after rest : ℕ) : Type 0 where
   pub comes : Comes d old holding i
-  pub small : rest < 2 ^ 64
   pub within : (j : ℕ) → has rest j ≡ true → has holding j ≡ true
   pub masks : MasksOnly old now
   pub holders : Holders (d .count) now after
@@ -70,10 +67,9 @@ module _ {d : Head} {i : ℕ} {old : List (List ℕ)} {holding : ℕ} (c : Comes
       go true q = eqb-true (maskAt old j) 0 q
       go false q = both (has holding j) (c .held .holders j .1 (l, eqb-false (maskAt old j) 0 q)) e
 
-  pub none-met : holding < 2 ^ 64 → Contesting d i old holding old (eventAt old i .event .controls) holding holding
-  none-met s = record {
+  pub none-met : Contesting d i old holding old (eventAt old i .event .controls) holding holding
+  none-met = record {
     comes = c;
-    small = s;
     within = λ j e. e;
     masks = record { size = c .held .used .size; each = λ j. refl };
     holders = c .held .holders;
@@ -89,7 +85,7 @@ module _ {d : Head} {i : ℕ} {old : List (List ℕ)} {holding : ℕ} (c : Comes
 
 -- One holder more is met.
 
-module _ {d : Head} {i : ℕ} {old : List (List ℕ)} {holding : ℕ} {now : List (List ℕ)} {left held rest : ℕ} (c : Contesting d i old holding now left held rest) (some : rest ≡ 0 → ⊥) where
+module _ {d : Head} {i : ℕ} {old : List (List ℕ)} {holding : ℕ} {now : List (List ℕ)} {left held rest : ℕ} (c : Contesting d i old holding now left held rest) {next : Next} (low : Lowest rest next) where
   abbrev ps : List Program
   ps = d .programs
 
@@ -97,16 +93,13 @@ module _ {d : Head} {i : ℕ} {old : List (List ℕ)} {holding : ℕ} {now : Lis
   carried = eventAt old i .event .controls
 
   abbrev at : ℕ
-  at = trailingZeros 64 rest
+  at = next .place
 
   abbrev later : ℕ
-  later = after 64 rest (c .small) some
-
-  is-next : has rest at ≡ true
-  is-next = has-next 64 rest (c .small) some
+  later = next .rest
 
   holds-some : (at < d .count) × (maskAt old at ≡ 0 → ⊥)
-  holds-some = c .comes .held .holders at .0 (c .within at is-next)
+  holds-some = c .comes .held .holders at .0 (c .within at (low .here))
 
   pub met-below : at < d .count
   met-below = holds-some .0
@@ -116,31 +109,26 @@ module _ {d : Head} {i : ℕ} {old : List (List ℕ)} {holding : ℕ} {now : Lis
 
   -- its mask is what it was
   pub met-mask : maskAt now at ≡ maskAt old at
-  met-mask = c .unmet at is-next
+  met-mask = c .unmet at (low .here)
 
   module _ (new : List (List ℕ)) (left′ held′ : ℕ) (masks : MasksOnly old new) (holders : Holders (d .count) new held′)
       (here : maskAt new at ≡ against (rankIn ps old) i carried (maskAt old) at) (others : (j : ℕ) → (j ≡ at → ⊥) → maskAt new j ≡ maskAt now j)
       (claim : (k : ℕ) → (has left′ k ≡ true) ↔ ((has left k ≡ true) × (has (maskAt old at) k ≡ true → better (rankIn ps old at) (rankIn ps old i) ≡ false))) where
-    -- one that has not been met before is this one, or was met
-    before : (o : ℕ) → has later o ≡ false → (o ≡ at) ⊎ (has rest o ≡ false)
-    before o e = ⊎-elim (λ q. inl q) (λ q. inr (sym (stays 64 rest (c .small) some o q) ∙ e)) (same o at)
-
     meets : Contesting d i old holding new left′ held′ later
     meets = record {
       comes = c .comes;
-      small = omega (arith, c .small, fewer 64 rest (c .small) some);
-      within = λ j e. c .within j (still 64 rest (c .small) some j e);
+      within = λ j e. c .within j (still low j e);
       masks = masks;
       holders = holders;
       own = others i another ∙ c .own;
-      met = λ j l q e. ⊎-elim (λ z. rw z here) (λ z. others j (λ y. both (has rest j) (rw y is-next) z) ∙ c .met j l q z) (before j e);
-      unmet = λ j e. others j (λ y. both (has later j) e (rw y (gone 64 rest (c .small) some))) ∙ c .unmet j (still 64 rest (c .small) some j e);
+      met = λ j l q e. ⊎-elim (λ z. rw z here) (λ z. others j (λ y. both (has rest j) (rw y (low .here)) z) ∙ c .met j l q z) (or-lowest low j e);
+      unmet = λ j e. others j (λ y. both (has later j) e (rw y (low .gone))) ∙ c .unmet j (still low j e);
       claim = λ k. (
         λ e. let q = claim k .0 e in let z = c .claim k .0 (q .0) in
-            (z .0, λ o l h m. ⊎-elim (λ y. rw y (q .1 (rw y at m))) (λ y. z .1 o l y m) (before o h)),
+            (z .0, λ o l h m. ⊎-elim (λ y. rw y (q .1 (rw y at m))) (λ y. z .1 o l y m) (or-lowest low o h)),
         λ q. claim k .1 (
-          c .claim k .1 (q .0, λ o l h m. q .1 o l (stays 64 rest (c .small) some o (λ y. both (has rest o) (rw y is-next) h) ∙ h) m),
-          λ m. q .1 at met-below (gone 64 rest (c .small) some) m,
+          c .claim k .1 (q .0, λ o l h m. q .1 o l (low .others o (λ y. both (has rest o) (rw y (low .here)) h) ∙ h) m),
+          λ m. q .1 at met-below (low .gone) m,
         ),
       );
     }

@@ -53,9 +53,6 @@ cut-same m c = rw (has-cut, has-self, and-false)
 pub cut-other : (m c k : ℕ) → (k ≡ c → ⊥) → has (cut m (2 ^ c)) k ≡ has m k
 cut-other m c k d = rw (has-cut, not-only c k d, and-true)
 
-pub cut-not : (m c : ℕ) → has m c ≡ false → cut m (2 ^ c) ≡ m
-cut-not m c e = cut-apart m (2 ^ c) (λ k p q. both (has m c) (rw (has-only c k q) at p) e)
-
 -- The lowest control of a mask, and a control that is flipped.
 
 pub has-lowest : (w m : ℕ) → 0 < m → m < 2 ^ w → has m (trailingZeros w m) ≡ true
@@ -85,7 +82,7 @@ module _ (m c : ℕ) (e : has m c ≡ true) where
   shared : bitAnd m (2 ^ c) ≡ 2 ^ c
   shared = omega (arith, and-le-r m (2 ^ c), has-least _ c (has-and m (2 ^ c) c ∙ rw (e, has-self c)))
 
-  pub flipped : bitXor m (2 ^ c) ≡ cut m (2 ^ c)
+  flipped : bitXor m (2 ^ c) ≡ cut m (2 ^ c)
   unfolding cut
   flipped = sym (ap (bitXor m) shared)
 

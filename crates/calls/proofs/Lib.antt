@@ -10,14 +10,10 @@ pub mod Controls  -- one control cut from a mask, and looked for at places
 pub mod Contending  -- settling with one claimant more is contending
 pub mod Sets  -- the lowest place of a set, and its places in order
 pub mod Contests  -- an event contends with those that hold something, one after the other
-pub mod Starting  -- the events of a set begin, one after the other
+pub mod Turns  -- walks over a set of places, one event after the other
 pub mod Phases  -- what an event does at a moment, its claim and its code
 pub mod Moments  -- a moment on slots is the moment of the definitions
-pub mod Releasing  -- the events of a set let go of what they hold, one by one
-pub mod Reporting  -- the rows of a set of places, one by one
-pub mod AgendaPlanning  -- a number put in its place, from the back
-pub mod AgendaGathering  -- the changes of events planned, event by event
-pub mod AgendaTaking  -- changes taken one by one
+pub mod Planning  -- an agenda made and read
 pub mod AgendaLaws  -- what an agenda says of the moments
 pub mod Advancing  -- the loop over moments: what was passed and what is left
 pub mod Finishing  -- the slots that last come to the front, one by one

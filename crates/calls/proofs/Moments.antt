@@ -34,9 +34,9 @@ use Rattle.calls.proofs.Reached.{at-in, in-at}
 use Rattle.calls.proofs.Slots.{in-slots, slot-at}
 use Rattle.calls.proofs.Puts.{rows-then}
 use Rattle.calls.proofs.Sets.{place-below, by-place, keep-places}
-use Rattle.calls.proofs.Contending.{sole}
+use Rattle.calls.proofs.Contending.{sole, settled-on}
 use Rattle.calls.proofs.Contests.{same-event, same-rank, masks-trans}
-use Rattle.calls.proofs.Starting.{settled-cong, settled-on}
+use Rattle.calls.proofs.Turns.{settled-cong}
 use Rattle.calls.proofs.Phases.{Phase, idle, ends, starts, holds, phase, end-begun, start-empty, hold-begun, isEnd, isStart, isHold, Gives, codes, claims}
 
 -- what does not hold is false
@@ -168,24 +168,21 @@ module _ {d : Head} {w : List (List ℕ)} {t : ℕ} {due : Due} {s : Standing} {
 
   -- What has ended is let go.
 
-  module _ {mid : List (List ℕ)} {before : ℕ} (r : Released ended (s .holding) w mid before) (begun : ℕ) (u : (i : ℕ) → has begun i ≡ (has (due .starting) i && not (eventAt mid i .cancelled))) where
-    begun-is : (i : ℕ) → has begun i ≡ (has (due .starting) i && not (eventAt w i .cancelled))
-    begun-is i = u i ∙ ap (λ h. has (due .starting) i && not (h .cancelled)) (r .masks .each i)
-
+  module _ {mid : List (List ℕ)} {before : ℕ} (r : Released ended (s .holding) w mid before) where
     record Marks (i : ℕ) (start hold : Bool) : Type 0 where
       holding : has before i ≡ hold
-      starting : has begun i ≡ start
+      starting : has (due .starting) i ≡ start
 
     marks : (i : ℕ) → i < d .count → Marks i (isStart (the i)) (isHold (the i))
     marks i l = go (the i) (ends-there i l)
       where
-        later : (eventAt w i .begins ≡ t → ⊥) → has begun i ≡ false
-        later q = begun-is i ∙ (rw (not-true (has (due .starting) i) (λ e. q (a .starting i .0 e .1))))
+        later : (eventAt w i .begins ≡ t → ⊥) → has (due .starting) i ≡ false
+        later q = not-true (has (due .starting) i) (λ e. q (a .starting i .0 e .1 .0))
 
         go : (p : Phase t (eventAt w i)) → has ended i ≡ isEnd p → Marks i (isStart p) (isHold p)
         go (idle z o) e = record {
           holding = r .holders i ∙ (rw (empty i z));
-          starting = ⊎-elim later (λ q. begun-is i ∙ ap (λ x. has (due .starting) i && not x) q ∙ and-false (has (due .starting) i)) o;
+          starting = ⊎-elim later (λ q. not-true (has (due .starting) i) (λ y. both (eventAt w i .cancelled) q (a .starting i .0 y .1 .1))) o;
         }
         go (ends q f) e = record {
           holding = r .holders i ∙ (rw (e, and-false));
@@ -193,7 +190,7 @@ module _ {d : Head} {w : List (List ℕ)} {t : ℕ} {due : Due} {s : Standing} {
         }
         go (starts q c) e = record {
           holding = r .holders i ∙ (rw (empty i (start-empty t (eventAt w i) (a .before i l) q c)));
-          starting = begun-is i ∙ (rw (a .starting i .1 (l, q), c));
+          starting = a .starting i .1 (l, (q, c));
         }
         go (holds f o) e = record {
           holding = r .holders i ∙ (rw (e, a .held .holders i .1 (l, f)));
@@ -204,10 +201,7 @@ module _ {d : Head} {w : List (List ℕ)} {t : ℕ} {due : Due} {s : Standing} {
     mask-less : (i k : ℕ) → has (maskAt mid i) k ≡ true → has (maskAt w i) k ≡ true
     mask-less i k e = has-either (has ended i) (maskAt w i) k (rw (r .released i) at e)
 
-    starts-in : (i : ℕ) → has begun i ≡ true → (i < d .count) × (eventAt w i .begins ≡ t)
-    starts-in i e = a .starting i .0 (each-true (has (due .starting) i) _ (sym (begun-is i) ∙ e) .0)
-
-    pub can-start : CanStart d mid before begun
+    pub can-start : CanStart d mid before (due .starting)
     can-start = record {
       held = record {
         used = record { few = a .held .used .few; size = r .masks .size };
@@ -216,7 +210,7 @@ module _ {d : Head} {w : List (List ℕ)} {t : ℕ} {due : Due} {s : Standing} {
       };
       distinct = λ i j l m e. a .distinct i j l m (ap idOf (sym (same-event (r .masks) i)) ∙ e ∙ ap idOf (same-event (r .masks) j));
       settled = record { each = λ i l k. (λ e. (e, λ o m f. let z = a .apart o i k m l (mask-less o k f) (mask-less i k e) in rw z (better-self (rankIn ps mid i))), λ q. q .0) };
-      empty = λ i e. let q = starts-in i e in (q .0, r .released i ∙ none (has ended i) (a .before i (q .0) .early (omega (arith, q .1))));
+      empty = λ i e. let q = a .starting i .0 e in (q .0, r .released i ∙ none (has ended i) (a .before i (q .0) .early (omega (arith, q .1 .0))));
     }
       where
         none : {m : ℕ} (x : Bool) → m ≡ 0 → cond x 0 m ≡ 0
@@ -241,14 +235,14 @@ module _ {d : Head} {w : List (List ℕ)} {t : ℕ} {due : Due} {s : Standing} {
 
     -- What begins has contended.
 
-    module _ {new : List (List ℕ)} {held : ℕ} (q : Started d begun mid new held) where
+    module _ {new : List (List ℕ)} {held : ℕ} (q : Started d (due .starting) mid new held) where
       pub all-masks : MasksOnly w new
       all-masks = masks-trans (r .masks) (q .masks)
 
-      settles : Settled (rankIn ps w) (d .count) (λ i. cond (has begun i) (eventAt w i .event .controls) (cond (has ended i) 0 (maskAt w i))) (maskAt new)
+      settles : Settled (rankIn ps w) (d .count) (λ i. cond (has (due .starting) i) (eventAt w i .event .controls) (cond (has ended i) 0 (maskAt w i))) (maskAt new)
       settles =
-          subst (λ rank. Settled rank (d .count) (λ i. cond (has begun i) (eventAt w i .event .controls) (cond (has ended i) 0 (maskAt w i))) (maskAt new)) (fun-ext (same-rank (r .masks) ps))
-          (settled-cong (λ i. ap₂ (cond (has begun i)) (ap (λ e. e .controls) (same-event (r .masks) i)) (r .released i)) (q .settled))
+          subst (λ rank. Settled rank (d .count) (λ i. cond (has (due .starting) i) (eventAt w i .event .controls) (cond (has ended i) 0 (maskAt w i))) (maskAt new)) (fun-ext (same-rank (r .masks) ps))
+          (settled-cong (λ i. ap₂ (cond (has (due .starting) i)) (ap (λ e. e .controls) (same-event (r .masks) i)) (r .released i)) (q .settled))
 
       pub settled : (i : ℕ) → i < d .count → maskAt new i ≡ heldAt ps t (slotState d w .entries) (eventAt w i)
       settled = held-there d w fits t (settled-on settles (λ i l. rw (ends-there i l, marks i l .starting) (claims t (eventAt w i) (a .before i l) (the i))))
@@ -262,26 +256,26 @@ module _ {d : Head} {w : List (List ℕ)} {t : ℕ} {due : Due} {s : Standing} {
           go false e = q .holders i .1 (l, eqb-false (maskAt new i) 0 e)
 
       abbrev losing : ℕ
-      losing = cut (join before begun) held
+      losing = cut (join before (due .starting)) held
 
       abbrev starting : ℕ
-      starting = bitAnd begun held
+      starting = bitAnd (due .starting) held
 
-      losing-is : (i : ℕ) → has losing i ≡ ((has before i || has begun i) && not (has held i))
-      losing-is i = has-cut (join before begun) held i ∙ ap (λ x. x && not (has held i)) (has-join before begun i)
+      losing-is : (i : ℕ) → has losing i ≡ ((has before i || has (due .starting) i) && not (has held i))
+      losing-is i = has-cut (join before (due .starting)) held i ∙ ap (λ x. x && not (has held i)) (has-join before (due .starting) i)
 
       pub losing-in : (i : ℕ) → has losing i ≡ true → i < d .count
-      losing-in i e = go (has before i) refl (each-true (has before i || has begun i) _ (sym (losing-is i) ∙ e) .0)
+      losing-in i e = go (has before i) refl (each-true (has before i || has (due .starting) i) _ (sym (losing-is i) ∙ e) .0)
         where
-          go : (x : Bool) → has before i ≡ x → (x || has begun i) ≡ true → i < d .count
+          go : (x : Bool) → has before i ≡ x → (x || has (due .starting) i) ≡ true → i < d .count
           go true y f = can-start .held .holders i .0 y .0
-          go false y f = starts-in i f .0
+          go false y f = a .starting i .0 f .0
 
-      starting-is : (i : ℕ) → has starting i ≡ (has begun i && has held i)
-      starting-is = has-and begun held
+      starting-is : (i : ℕ) → has starting i ≡ (has (due .starting) i && has held i)
+      starting-is = has-and (due .starting) held
 
       pub starting-in : (i : ℕ) → has starting i ≡ true → i < d .count
-      starting-in i e = starts-in i (each-true (has begun i) _ (sym (starting-is i) ∙ e) .0) .0
+      starting-in i e = a .starting i .0 (each-true (has (due .starting) i) _ (sym (starting-is i) ∙ e) .0) .0
 
       few : d .count ≤ mostEvents
       few = a .held .used .few

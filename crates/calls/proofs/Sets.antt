@@ -1,13 +1,13 @@
 -- Sets of places: their lowest place, their places in order, and what becomes of the set of holders when one place gets another mask.
-use mathlib.Core.Path.{_≡_, refl, sym, ap, ap₂, _∙_}
+use mathlib.Core.Path.{_≡_, refl, sym, ap, _∙_}
 use mathlib.Core.Logic.{_↔_, _⊎_, inl, inr, ⊎-elim}
-use Prim.Native.Nat.{ℕ, zero, suc, _+_, _*_, _/_, _%_, _^_, _<_, _≤_}
-use mathlib.Core.Bool.{Bool, true, false, cond, not, _&&_, _||_, and-true, and-false, or-true, or-false}
+use Prim.Native.Nat.{ℕ, zero, suc, _+_, _*_, _/_, _%_, _^_, _<_}
+use mathlib.Core.Bool.{Bool, true, false, cond, not, _&&_, _||_, and-false, or-true, or-false}
 use mathlib.Core.List.{List, [], _∷_, _++_, map, append-nil}
 use native.Mathlib.Nat.{one-mul, eq-or-lt-of-le}
 use native.Mathlib.Numerals.{add-one}
 use native.Mathlib.Omega.{arith}
-use lib.Bits.{bitAnd, bitOr, bitXor, and-le-l}
+use lib.Bits.{bitAnd, bitOr, bitXor}
 use lib.Count.{trailingZeros, under}
 use lib.Dec.{eqb}
 use lib.ListN.{length, getD, length-append, length-map, List·getD-append}
@@ -20,10 +20,11 @@ use Rattle.rules.proofs.Tests.{both, each-true}
 use Rattle.rules.proofs.ListLaws.{in-append, keep-no}
 use Rattle.rules.proofs.Masks.{has-and, has-half, has-cut, has-join, has-none, not-has}
 use Rattle.rules.proofs.Nobody.{has-ext}
+use Rattle.calls.specs.declared.bits.Next.{Next}
 use Rattle.calls.specs.Slots.{entryOf}
-use Rattle.calls.specs.Sets.{placesTo, maskAt, SetOf, Holders, Masked, Counted}
+use Rattle.calls.specs.Sets.{placesTo, maskAt, SetOf, Lowest, Holders, Masked, Counted}
 use Rattle.calls.proofs.Reached.{at-map}
-use Rattle.calls.proofs.Controls.{has-self, has-only, not-only, flipped, cut-same, cut-other, has-lowest, has-within, flip-same, flip-other, flip-less}
+use Rattle.calls.proofs.Controls.{has-self, has-only, not-only, cut-same, cut-other, has-lowest, has-within, flip-same, flip-other, flip-less}
 use Rattle.calls.proofs.Contending.{same}
 
 -- Lists and places.
@@ -100,58 +101,41 @@ lowest-first (suc width) m i l = go (m % 2) refl i (λ j. lowest-first width (m 
     go zero e (suc j) ih l = sym (has-half m j) ∙ ih j (omega arith)
     go (suc d) e i ih l = absurd (omega arith)
 
-module _ (width rest : ℕ) (small : rest < 2 ^ width) (some : rest ≡ 0 → ⊥) where
-  abbrev pub next : ℕ
-  next = trailingZeros width rest
+-- the lowest place of a set
+pub lowest : (set : ℕ) → set < 2 ^ 64 → (set ≡ 0 → ⊥) → Lowest set (record { place = trailingZeros 64 set; rest = bitXor set (1 * 2 ^ trailingZeros 64 set % 2 ^ 64) })
+lowest set l some =
+    let place = trailingZeros 64 set in
+    let here = has-lowest 64 set (omega arith) l in
+    let alone : 1 * 2 ^ place % 2 ^ 64 ≡ 2 ^ place = shl-exact {a = 1} 1 place 64 (omega arith) (omega (arith, has-within 64 set place l here)) ∙ one-mul (2 ^ place) in
+    record {
+      here = here;
+      first = lowest-first 64 set;
+      gone = rw alone (flip-same set place here);
+      others = rw alone (flip-other set place here);
+      less = rw alone (flip-less set place here);
+    }
 
-  pub has-next : has rest next ≡ true
-  has-next = has-lowest width rest (omega arith) small
-
-  pub next-below : next < width
-  next-below = has-within width rest next small has-next
-
-  -- the mask of it alone
-  alone : 1 * 2 ^ next % 2 ^ width ≡ 2 ^ next
-  alone = shl-exact {a = 1} 1 next width (omega arith) (omega (arith, next-below)) ∙ one-mul (2 ^ next)
-
-  abbrev pub after : ℕ
-  after = bitXor rest (1 * 2 ^ next % 2 ^ width)
-
-  pub fewer : after < rest
-  fewer = rw alone (flip-less rest next has-next)
-
-  pub gone : has after next ≡ false
-  gone = rw alone (flip-same rest next has-next)
-
-  pub stays : (k : ℕ) → (k ≡ next → ⊥) → has after k ≡ has rest k
-  stays = rw alone (flip-other rest next has-next)
-
+module _ {set : ℕ} {r : Next} (n : Lowest set r) where
   -- what is left was there
-  pub still : (k : ℕ) → has after k ≡ true → has rest k ≡ true
-  still k e = ⊎-elim (λ q. both (has after k) e (rw q gone)) (λ d. sym (stays k d) ∙ e) (same k next)
+  pub still : (k : ℕ) → has (r .rest) k ≡ true → has set k ≡ true
+  still k e = ⊎-elim (λ q. both (has (r .rest) k) e (rw q (n .gone))) (λ d. sym (n .others k d) ∙ e) (same k (r .place))
 
-  pub in-order : (m : ℕ) → next < m → keep (has rest) (placesTo m) ≡ next ∷ keep (has after) (placesTo m)
-  in-order m l = first-place (has rest) (has after) next has-next (lowest-first width rest) gone stays m l
+  -- what is not left is the lowest, or was not there
+  pub or-lowest : (k : ℕ) → has (r .rest) k ≡ false → (k ≡ r .place) ⊎ (has set k ≡ false)
+  or-lowest k e = ⊎-elim (λ q. inl q) (λ q. inr (sym (n .others k q) ∙ e)) (same k (r .place))
 
--- A set sifted place by place, or a mask control by control: those of `rest` have not been looked at.
-pub record Sifting (width set : ℕ) (out : ℕ → Bool) (left rest : ℕ) : Type 0 where
-  pub small : rest < 2 ^ width
-  pub within : (k : ℕ) → has rest k ≡ true → has set k ≡ true
-  pub so-far : (k : ℕ) → has left k ≡ (has set k && (not (out k) || has rest k))
+  pub in-order : (m : ℕ) → r .place < m → keep (has set) (placesTo m) ≡ r .place ∷ keep (has (r .rest)) (placesTo m)
+  in-order m l = first-place (has set) (has (r .rest)) (r .place) (n .here) (n .first) (n .gone) (n .others) m l
 
-pub none-sifted : (width set : ℕ) (out : ℕ → Bool) → set < 2 ^ width → Sifting width set out set set
-none-sifted width set out l = record { small = l; within = λ k e. e; so-far = λ k. go k (has set k) (out k) refl }
-  where
-    go : (k : ℕ) (a b : Bool) → has set k ≡ a → a ≡ (a && (not b || has set k))
-    go k true true p = sym (rw p)
-    go k true false p = refl
-    go k false b p = refl
+-- Controls cut from a mask one by one: those of `rest` are left to cut.
 
--- of a mask only the controls that another has need be looked at
-pub shared-only : (mask other : ℕ) → mask < 2 ^ 32 → Sifting 32 mask (has other) mask (bitAnd mask other)
-shared-only mask other l = record {
-  small = omega (arith, and-le-l mask other);
-  within = λ k e. each-true _ _ (sym (has-and mask other k) ∙ e) .0;
+pub record Cutting (mask other left rest : ℕ) : Type 0 where
+  pub shared : (k : ℕ) → has rest k ≡ true → (has mask k ≡ true) × (has other k ≡ true)
+  pub so-far : (k : ℕ) → has left k ≡ (has mask k && (not (has other k) || has rest k))
+
+pub none-cut : (mask other : ℕ) → Cutting mask other mask (bitAnd mask other)
+none-cut mask other = record {
+  shared = λ k e. each-true (has mask k) (has other k) (sym (has-and mask other k) ∙ e);
   so-far = λ k. rw (has-and mask other k) (go (has mask k) (has other k));
 }
   where
@@ -160,42 +144,18 @@ shared-only mask other l = record {
     go true false = refl
     go false b = refl
 
-module _ {width set : ℕ} {out : ℕ → Bool} {left rest : ℕ} (c : Sifting width set out left rest) (some : rest ≡ 0 → ⊥) where
-  abbrev at : ℕ
-  at = trailingZeros width rest
+pub one-cut : {mask other left rest : ℕ} → Cutting mask other left rest → {r : Next} → Lowest rest r → Cutting mask other (cut left (2 ^ r .place)) (r .rest)
+one-cut {mask} {other} {left} c {r} n = record {
+  shared = λ k e. c .shared k (still n k e);
+  so-far = λ k. ⊎-elim (λ q. rw q here) (λ d. cut-other left (r .place) k d ∙ c .so-far k ∙ (rw (n .others k d))) (same k (r .place));
+}
+  where
+    here : has (cut left (2 ^ r .place)) (r .place) ≡ (has mask (r .place) && (not (has other (r .place)) || has (r .rest) (r .place)))
+    here = cut-same left (r .place) ∙ sym (rw (c .shared (r .place) (n .here) .1, n .gone) (and-false (has mask (r .place))))
 
-  abbrev later : ℕ
-  later = after width rest (c .small) some
-
-  left-there : has left at ≡ true
-  left-there = c .so-far at ∙ (rw (c .within at (has-next width rest (c .small) some), has-next width rest (c .small) some, or-true))
-
-  module _ (new : ℕ) (h : has new at ≡ (has left at && not (out at))) (o : (k : ℕ) → (k ≡ at → ⊥) → has new k ≡ has left k) where
-    sifted : Sifting width set out new later
-    sifted = record {
-      small = omega (arith, c .small, fewer width rest (c .small) some);
-      within = λ k e. c .within k (still width rest (c .small) some k e);
-      so-far = λ k. ⊎-elim (λ q. rw q here) (λ d. o k d ∙ c .so-far k ∙ (rw (stays width rest (c .small) some k d))) (same k at);
-    }
-      where
-        here : has new at ≡ (has set at && (not (out at) || has later at))
-        here = h ∙ (rw (left-there, c .within at (has-next width rest (c .small) some), gone width rest (c .small) some) (sym (or-false (not (out at)))))
-
-  pub sift-out : out at ≡ true → Sifting width set out (cut left (2 ^ at)) later
-  sift-out e = sifted _ (cut-same left at ∙ (rw (e, and-false))) (λ k d. cut-other left at k d)
-
-  -- the same where the bit is flipped
-  pub sift-flip : out at ≡ true → Sifting width set out (bitXor left (2 ^ at)) later
-  sift-flip e = rw (flipped left at left-there) (sift-out e)
-
-  pub sift-by : out at ≡ false → Sifting width set out left later
-  sift-by e = sifted left (rw (e, and-true)) (λ k d. refl)
-
-pub all-sifted : {width set : ℕ} {out : ℕ → Bool} {left rest : ℕ} → Sifting width set out left rest → rest ≡ 0 → (k : ℕ) → has left k ≡ (has set k && not (out k))
-all-sifted {width} {set} {out} c e k = c .so-far k ∙ (rw (e, has-none, or-false))
-
-pub all-cut : (mask other : ℕ) {left rest : ℕ} → Sifting 32 mask (has other) left rest → rest ≡ 0 → left ≡ cut mask other
-all-cut mask other {left} c e = has-ext left (cut mask other) (λ k. let q = all-sifted c e k ∙ sym (has-cut mask other k) in (λ h. sym q ∙ h, λ h. q ∙ h))
+pub all-cut : (mask other : ℕ) {left rest : ℕ} → Cutting mask other left rest → rest ≡ 0 → left ≡ cut mask other
+all-cut mask other {left} c e =
+    has-ext left (cut mask other) (λ k. let q = c .so-far k ∙ (rw (e, has-none, or-false) (sym (has-cut mask other k))) in (λ h. sym q ∙ h, λ h. q ∙ h))
 
 -- A set built place by place.
 

@@ -2,7 +2,7 @@
 use mathlib.Core.Path.{_≡_}
 use mathlib.Core.Logic.{_⊎_, _↔_}
 use Prim.Native.Nat.{ℕ, _+_, _*_, _%_, _<_, _≤_}
-use mathlib.Core.Bool.{true}
+use mathlib.Core.Bool.{true, false}
 use mathlib.Core.List.{List, []}
 use lib.ListN.{length, getD}
 use Rattle.rules.specs.declared.Entry.{Entry}
@@ -30,9 +30,9 @@ startAt t i = t * 128 + (64 + i)
 abbrev pub nothing : ℕ
 nothing = 18446744073709551615
 
--- x is the start or the end of the event at place i, after the clock and up to the reading
+-- x is the start or the end of the event at place i, after the clock and up to the reading; a cancelled event never starts
 abbrev pub Change : (clock to : ℕ) → Entry → (i x : ℕ) → Type 0
-Change clock to h i x = ((clock < h .begins) × (h .begins ≤ to) × (x ≡ startAt (h .begins) i)) ⊎ ((endOf h ≤ to) × (x ≡ endAt (endOf h) i))
+Change clock to h i x = ((h .cancelled ≡ false) × (clock < h .begins) × (h .begins ≤ to) × (x ≡ startAt (h .begins) i)) ⊎ ((endOf h ≤ to) × (x ≡ endAt (endOf h) i))
 
 -- x stands in an agenda
 abbrev pub Planned : List ℕ → ℕ → Type 0
@@ -58,10 +58,6 @@ pub record Inserted (m x : ℕ) (old new : List ℕ) : Type 0 where
   pub put : Planned new x
   pub kept : (y : ℕ) → Planned old y → Planned new y
   pub only : (j : ℕ) → j < agendaSize → (getD new j 0 ≡ x) ⊎ Planned old (getD new j 0)
-
--- the events before place `from` end after the reading
-abbrev pub Lasting : ℕ → ℕ → List (List ℕ) → Type 0
-Lasting to from w = (i : ℕ) → i < from → to < endOf (entryOf (getD w i []))
 
 -- a change at or behind `from` is not before the bound
 abbrev pub Stops : List ℕ → ℕ → ℕ → Type 0

@@ -2,7 +2,7 @@
 use mathlib.Core.Path.{_≡_}
 use mathlib.Core.Logic.{_↔_}
 use Prim.Native.Nat.{ℕ, _+_, _<_, _≤_}
-use mathlib.Core.Bool.{true, cond, not, _&&_}
+use mathlib.Core.Bool.{true, false, cond, not, _&&_}
 use mathlib.Core.List.{List}
 use lib.ListN.{length}
 use Rattle.rules.specs.declared.Entry.{Entry}
@@ -59,7 +59,7 @@ pub record Ahead (d : Head) (w : List (List ℕ)) (t : ℕ) (due : Due) (s : Sta
   pub before : (i : ℕ) → i < d .count → Before t (eventAt w i)
   pub apart : OneHolderIn d w
   pub ending : SetOf (d .count) (λ i. endOf (eventAt w i) ≡ t) (due .ending)
-  pub starting : SetOf (d .count) (λ i. eventAt w i .begins ≡ t) (due .starting)
+  pub starting : SetOf (d .count) (λ i. (eventAt w i .begins ≡ t) × (eventAt w i .cancelled ≡ false)) (due .starting)
   pub size : length rows ≡ rowsSize
   pub room : s .rows + length (rowsAt (d .programs) t (slotState d w .entries)) ≤ mostRows
 

@@ -2,7 +2,7 @@
 use mathlib.Core.Path.{_≡_}
 use mathlib.Core.Logic.{_↔_}
 use Prim.Native.Nat.{ℕ, zero, suc, _<_}
-use mathlib.Core.Bool.{true, not, cond}
+use mathlib.Core.Bool.{true, false, not, cond}
 use mathlib.Core.List.{List, [], _∷_, _++_, map}
 use lib.Dec.{eqb}
 use lib.ListN.{length, getD}
@@ -12,6 +12,7 @@ use Rattle.rules.specs.Lists.{keep}
 use Rattle.rules.specs.Records.{idOf, has, mostEvents, mostPrograms}
 use Rattle.rules.specs.Holding.{Rank, rankOf, withHolding}
 use Rattle.rules.specs.Rows.{Row}
+use Rattle.calls.specs.declared.bits.Next.{Next}
 use Rattle.calls.specs.Slots.{entryOf}
 
 -- the event at a place, what it holds, and its rank
@@ -32,6 +33,14 @@ Numbered n w = (i : ℕ) → i < n → eventAt w i .event .program < mostProgram
 unfoldable pub placesTo : ℕ → List ℕ
 placesTo zero = []
 placesTo (suc n) = placesTo n ++ (n ∷ [])
+
+-- the lowest place of a set, and the set without it
+pub record Lowest (set : ℕ) (r : Next) : Type 0 where
+  pub here : has set (r .place) ≡ true
+  pub first : (i : ℕ) → i < r .place → has set i ≡ false
+  pub gone : has (r .rest) (r .place) ≡ false
+  pub others : (i : ℕ) → (i ≡ r .place → ⊥) → has (r .rest) i ≡ has set i
+  pub less : r .rest < set
 
 -- a set is that of those of the first n places that have a property
 abbrev pub SetOf : ℕ → (ℕ → Type 0) → ℕ → Type 0

@@ -21,16 +21,23 @@ pub(crate) struct Passed {
     pub(crate) rows: usize,
 }
 
-// All moments of the agenda; how many rows there are.
-fn moments(d: Head, slots: &mut Slots, to: u64, agenda: &agenda::Agenda, rows: &mut Rows) -> usize
+// What the moments leave besides the slots: the places of the events that have ended, and how many rows there are.
+struct Through {
+    ended: u64,
+    rows: usize,
+}
+
+// All moments of the agenda.
+fn moments(d: Head, slots: &mut Slots, to: u64, agenda: &agenda::Agenda, rows: &mut Rows) -> Through
     requires { ⌜ Ready d (now slots) × Agenda (d .clock) to (d .count) (now slots) (now agenda) ⌝ }
     requires { ⌜ (d .clock ≤ to) × (to ≤ lastClock) × (length (now rows) ≡ rowsSize) ⌝ }
-    ensures { λ r. ⌜ Passes d (now (slots .entry)) to (now (rows .exit)) r (now (slots .exit)) ⌝ }
+    ensures { λ r. ⌜ Passes d (now (slots .entry)) to (now (rows .exit)) (r .ended) (r .rows) (now (slots .exit)) ⌝ }
 {
     let mut s = Standing {
         holding: clock::holders(slots, d.count),
         rows: 0,
     };
+    let mut ended = 0;
     let mut k = 0;
     let mut t = agenda::time_at(agenda, k);
     while t <= to {
@@ -41,10 +48,14 @@ fn moments(d: Head, slots: &mut Slots, to: u64, agenda: &agenda::Agenda, rows: &
             starting: starts.places,
         };
         s = clock::moment(d, slots, t, due, s, rows);
+        ended |= ends.places;
         k = starts.next;
         t = agenda::time_at(agenda, k);
     }
-    s.rows
+    Through {
+        ended,
+        rows: s.rows,
+    }
 }
 
 // A reading: the moments up to it, and what has ended dropped.
@@ -53,19 +64,18 @@ pub(crate) fn advance(mut d: Head, slots: &mut Slots, to: u64, rows: &mut Rows) 
     requires { ⌜ (d .clock ≤ to) × (to ≤ lastClock) × (length (now rows) ≡ rowsSize) ⌝ }
     ensures { λ r. ⌜ Advances d (now (slots .entry)) to (now (rows .exit)) r (now (slots .exit)) ⌝ }
 {
-    let n = d.count;
     let mut agenda: agenda::Agenda = [agenda::NOTHING; agenda::AGENDA_SIZE];
-    let first = agenda::gather(d.clock, to, slots, n, &mut agenda);
-    let mut count = 0;
+    agenda::gather(d.clock, to, slots, d.count, &mut agenda);
+    let mut through = Through { ended: 0, rows: 0 };
     if agenda[0] != agenda::NOTHING {
-        count = moments(d, slots, to, &agenda, rows);
+        through = moments(d, slots, to, &agenda, rows);
     }
-    if first < n {
-        d.count = finish::finish(slots, first, n, to);
+    if through.ended != 0 {
+        d.count = finish::finish(slots, d.count, through.ended);
     }
     d.clock = to;
     Passed {
         head: d,
-        rows: count,
+        rows: through.rows,
     }
 }

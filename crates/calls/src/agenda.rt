@@ -1,10 +1,11 @@
 // The agenda of a clock call: the starts and ends that its reading passes, each one number, in ascending order, with an end mark behind them.
 ghost use mathlib.Core.Path.{_≡_};
-ghost use mathlib.Core.Bool.{true, false};
+ghost use mathlib.Core.Bool.{true, false, not, _&&_};
+ghost use lib.Dec.{leb, ltb};
 ghost use Prim.Native.Nat.{_+_, _-_, _*_, _/_, _<_, _≤_};
 ghost use lib.ListN.{length, getD, replicate};
 ghost use Rattle.rules.specs.Records.{mostEvents, lastClock};
-ghost use Rattle.calls.specs.Agenda.{mostChanges, agendaSize, endAt, startAt, nothing, Agenda, Filled, Inserted, Lasting, Stops, TakenTo};
+ghost use Rattle.calls.specs.Agenda.{mostChanges, agendaSize, endAt, startAt, nothing, Agenda, Filled, Inserted, Stops, TakenTo};
 use crate::held;
 use crate::held::Slots;
 use rules::Schedule;
@@ -58,31 +59,33 @@ fn plan(agenda: &mut Agenda, m: usize, x: u64)
     agenda[j] = x;
 }
 
-// The starts and ends of the first n events, after the clock and up to the reading; the first place whose event ends up to the reading, n if none does.
-pub(crate) fn gather(clock: u64, to: u64, slots: &Slots, n: usize, agenda: &mut Agenda) -> usize
+// Whether an event begins after the clock and up to the reading. A cancelled one never does.
+fn is_coming(clock: u64, to: u64, stopped: bool, begins: u64) -> bool
+    ensures { λ r. ⌜ r ≡ (not stopped && (ltb clock begins && leb begins to)) ⌝ }
+{
+    !stopped & ((clock < begins) & (begins <= to))
+}
+
+// The starts and ends of the first n events, after the clock and up to the reading.
+pub(crate) fn gather(clock: u64, to: u64, slots: &Slots, n: usize, agenda: &mut Agenda)
     requires { ⌜ (n ≤ mostEvents) × (length (now slots) ≡ mostEvents) × (to ≤ lastClock) × (now agenda ≡ replicate agendaSize nothing) ⌝ }
-    ensures { λ r. ⌜ Agenda clock to n (now (slots .entry)) (now (agenda .exit)) × (r ≤ n) × Lasting to r (now (slots .entry)) ⌝ }
+    ensures { λ _. ⌜ Agenda clock to n (now (slots .entry)) (now (agenda .exit)) ⌝ }
 {
     let mut m = 0;
-    let mut ended = n;
     let mut i = 0;
     while i < n {
         let begins = held::begins_at(slots, i);
-        let ends = held::ends_at(slots, i);
-        if (clock < begins) & (begins <= to) {
+        if is_coming(clock, to, held::is_cancelled_at(slots, i), begins) {
             plan(agenda, m, start_at(begins, i));
             m += 1;
         }
+        let ends = held::ends_at(slots, i);
         if ends <= to {
             plan(agenda, m, end_at(ends, i));
             m += 1;
-            if ended == n {
-                ended = i;
-            }
         }
         i += 1;
     }
-    ended
 }
 
 // Changes that were taken: the set of their places, and where the next change stands.

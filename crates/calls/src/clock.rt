@@ -1,16 +1,17 @@
 // One moment of a clock call. What each event holds stands in the slots and nowhere else. Sets of places, one bit each, say who: the events that hold something,
 // those that end and those that begin at the moment, those that give a row.
 ghost use mathlib.Core.Path.{_≡_};
-ghost use mathlib.Core.Bool.{not, true, _&&_};
+ghost use mathlib.Core.Bool.{true};
 ghost use mathlib.Core.List.{[], _∷_};
 ghost use Prim.Native.Nat.{ℕ, _+_, _≤_, _<_};
 ghost use lib.ListN.{length};
 ghost use Rattle.rules.specs.Records.{has, idNumber, mostEvents, mostRows};
 ghost use Rattle.rules.specs.Bytes.{rowsSize};
 ghost use Rattle.calls.specs.Slots.{InUse};
-ghost use Rattle.calls.specs.Sets.{eventAt, Holders, setRows};
+ghost use Rattle.calls.specs.Sets.{Holders, setRows};
 ghost use Rattle.calls.specs.Written.{Written};
 ghost use Rattle.calls.specs.Moment.{CanStart, Started, Released, Ahead, Past};
+use crate::bits;
 use crate::held;
 use crate::held::Head;
 use crate::held::Rows;
@@ -66,10 +67,10 @@ fn report(rows: &mut Rows, from: usize, t: u64, slots: &Slots, set: u64, code: u
     let mut at = from;
     let mut rest = set;
     while rest != 0 {
-        let i = u64::trailing_zeros(rest);
-        add_row(rows, at, t, held::id_at(slots, i as usize), code);
+        let next = bits::lowest(rest);
+        add_row(rows, at, t, held::id_at(slots, next.place), code);
         at += 1;
-        rest ^= 1 << i;
+        rest = next.rest;
     }
     at
 }
@@ -82,28 +83,11 @@ fn release(slots: &mut Slots, holding: u64, ended: u64) -> u64
     let mut now = holding;
     let mut rest = ended;
     while rest != 0 {
-        let i = u64::trailing_zeros(rest);
-        now = settle::hold(slots, now, i as usize, 0);
-        rest ^= 1 << i;
+        let next = bits::lowest(rest);
+        now = settle::hold(slots, now, next.place, 0);
+        rest = next.rest;
     }
     now
-}
-
-// Of a set of places those whose events are not cancelled.
-fn uncancelled(slots: &Slots, set: u64) -> u64
-    requires { ⌜ ((i : ℕ) → has set i ≡ true → i < mostEvents) ⌝ }
-    ensures { λ r. ⌜ ((i : ℕ) → has r i ≡ (has set i && not (eventAt (now (slots .entry)) i .cancelled))) ⌝ }
-{
-    let mut left = set;
-    let mut rest = set;
-    while rest != 0 {
-        let i = u64::trailing_zeros(rest);
-        if held::is_cancelled_at(slots, i as usize) {
-            left ^= 1 << i;
-        }
-        rest ^= 1 << i;
-    }
-    left
 }
 
 // The events of a set begin, one after the other; those that hold something then.
@@ -114,9 +98,9 @@ fn start(d: Head, slots: &mut Slots, holding: u64, starting: u64) -> u64
     let mut now = holding;
     let mut rest = starting;
     while rest != 0 {
-        let i = u64::trailing_zeros(rest) as usize;
-        now = settle::contend(d, slots, now, i);
-        rest ^= 1 << (i as u64);
+        let next = bits::lowest(rest);
+        now = settle::contend(d, slots, now, next.place);
+        rest = next.rest;
     }
     now
 }
@@ -137,10 +121,9 @@ pub(crate) fn moment(
     let ended = due.ending & s.holding;
     let ends = report(rows, s.rows, t, slots, ended, 3);
     let before = release(slots, s.holding, ended);
-    let starting = uncancelled(slots, due.starting);
-    let holding = start(d, slots, before, starting);
-    let contenders = before | starting;
+    let holding = start(d, slots, before, due.starting);
+    let contenders = before | due.starting;
     let losses = report(rows, ends, t, slots, contenders ^ (contenders & holding), 7);
-    let all = report(rows, losses, t, slots, starting & holding, 2);
+    let all = report(rows, losses, t, slots, due.starting & holding, 2);
     Standing { holding, rows: all }
 }

@@ -4,11 +4,10 @@ ghost use mathlib.Core.Path.{_≡_};
 ghost use mathlib.Core.Bool.{cond};
 ghost use mathlib.Core.List.{[]};
 ghost use Prim.Native.Nat.{_<_};
-ghost use lib.ListN.{length, getD};
+ghost use lib.ListN.{getD};
 ghost use Rattle.rules.specs.Records.{mostEvents};
 ghost use Rattle.rules.specs.Holding.{endOf, withHolding};
 ghost use Rattle.calls.specs.Slots.{entryOf, headOf, scheduleOf, InUse, CanTake, TakenApart};
-ghost use Rattle.calls.specs.Sets.{Masked};
 use rules::Entry;
 use rules::Event;
 use rules::Id;
@@ -126,7 +125,7 @@ pub(crate) fn entry_of(slot: Slot) -> Entry
 }
 
 // The event in a slot with another held mask.
-fn with_mask(mut slot: Slot, held: u32) -> Slot
+pub(crate) fn with_mask(mut slot: Slot, held: u32) -> Slot
     ensures { λ r. ⌜ entryOf r ≡ withHolding (entryOf slot) (record { held = held }) ⌝ }
 {
     slot[HELD] = held as u64;
@@ -192,15 +191,6 @@ pub(crate) fn is_cancelled_at(slots: &Slots, i: usize) -> bool
     ensures { λ r. ⌜ r ≡ entryOf (getD (now (slots .entry)) i []) .cancelled ⌝ }
 {
     slots[i][CANCELLED] == 1
-}
-
-// The event in slot i gets another held mask.
-pub(crate) fn set_mask(slots: &mut Slots, i: usize, held: u32)
-    requires { ⌜ (i < mostEvents) × (length (now slots) ≡ mostEvents) ⌝ }
-    ensures { λ _. ⌜ Masked i held (now (slots .entry)) (now (slots .exit)) ⌝ }
-{
-    let slot = slots[i];
-    slots[i] = with_mask(slot, held);
 }
 
 pub(crate) fn head_of(s: Schedule) -> Head

@@ -11,6 +11,7 @@ ghost use Rattle.calls.specs.Whole.{WholeText};
 
 mod advance;
 mod agenda;
+mod bits;
 mod clock;
 mod events;
 mod finish;

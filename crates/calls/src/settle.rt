@@ -1,11 +1,12 @@
 // Who keeps which control when an event begins. The masks stand in the slots; a set of places, one bit each, says which events hold something.
 ghost use mathlib.Core.Path.{_≡_};
-ghost use Prim.Native.Nat.{_<_, _^_};
+ghost use Prim.Native.Nat.{_<_};
 ghost use lib.ListN.{length};
 ghost use Rattle.rules.specs.Records.{has, cut, idNumber, mostControls, mostEvents, mostPrograms, programAt};
 ghost use Rattle.rules.specs.Holding.{better};
 ghost use Rattle.calls.specs.Sets.{eventAt, rankIn, Masked, Counted};
 ghost use Rattle.calls.specs.Settled.{Comes, Contended};
+use crate::bits;
 use crate::held;
 use crate::held::Head;
 use crate::held::Programs;
@@ -36,7 +37,7 @@ pub(crate) fn is_in(m: u32, c: u32) -> bool
     requires { ⌜ c < mostControls ⌝ }
     ensures { λ r. ⌜ r ≡ has m c ⌝ }
 {
-    (m >> c) % 2 == 1
+    bits::contains(m as u64, c as usize)
 }
 
 // The primacy of the event in a slot.
@@ -65,24 +66,16 @@ fn is_ahead(programs: Programs, slots: &Slots, i: usize, j: usize) -> bool
     )
 }
 
-// A mask without control c.
-fn cut_control(m: u32, c: u32) -> u32
-    requires { ⌜ c < mostControls ⌝ }
-    ensures { λ r. ⌜ r ≡ cut m (2 ^ c) ⌝ }
-{
-    m ^ (m & (1 << c))
-}
-
 // A mask without the controls that another has, one by one.
 fn without(mask: u32, other: u32) -> u32
     ensures { λ r. ⌜ r ≡ cut mask other ⌝ }
 {
     let mut left = mask;
-    let mut rest = mask & other;
+    let mut rest = (mask & other) as u64;
     while rest != 0 {
-        let c = u32::trailing_zeros(rest);
-        left = cut_control(left, c);
-        rest ^= 1 << c;
+        let next = bits::lowest(rest);
+        left ^= left & (1 << (next.place as u32));
+        rest = next.rest;
     }
     left
 }
@@ -92,7 +85,8 @@ pub(crate) fn hold(slots: &mut Slots, holding: u64, i: usize, mask: u32) -> u64
     requires { ⌜ (i < mostEvents) × (length (now slots) ≡ mostEvents) ⌝ }
     ensures { λ r. ⌜ Masked i mask (now (slots .entry)) (now (slots .exit)) × Counted i mask holding r ⌝ }
 {
-    held::set_mask(slots, i, mask);
+    let slot = slots[i];
+    slots[i] = held::with_mask(slot, mask);
     let bit = 1 << (i as u64);
     let others = holding ^ (holding & bit);
     if mask == 0 {
@@ -111,17 +105,17 @@ pub(crate) fn contend(d: Head, slots: &mut Slots, holding: u64, i: usize) -> u64
     let mut now = holding;
     let mut rest = holding;
     while rest != 0 {
-        let j = u64::trailing_zeros(rest) as usize;
-        let mask = held::held_at(slots, j);
+        let next = bits::lowest(rest);
+        let mask = held::held_at(slots, next.place);
         if claim & mask != 0 {
             let programs = d.programs;
-            if is_ahead(programs, slots, j, i) {
+            if is_ahead(programs, slots, next.place, i) {
                 left = without(left, mask);
             } else {
-                now = hold(slots, now, j, without(mask, claim));
+                now = hold(slots, now, next.place, without(mask, claim));
             }
         }
-        rest ^= 1 << (j as u64);
+        rest = next.rest;
     }
     hold(slots, now, i, left)
 }

@@ -2,6 +2,7 @@
 use mathlib.Core.Path.{_≡_}
 use Prim.Native.Nat.{ℕ, _+_, _-_, _*_, _/_}
 use native.Mathlib.Omega.{arith}
+use lib.Bits.{bitOr}
 use lib.ListN.{getD}
 use Rattle.calls.specs.Agenda.{TakenTo}
 use Rattle.calls.proofs.AgendaLaws.{stops-ends, stops-starts}
@@ -10,10 +11,10 @@ use Rattle.calls.proofs.advance.moments.Statement.{statement}
 use Rattle.calls.proofs.advance.moments.Tie as tie
 
 abbrev Inv-loop : tie.InvT-loop
-Inv-loop d slots₀ to agenda rows₀ s₀ k₀ t₀ slots rows s k t = (clock : ℕ) × Going d slots₀ to agenda rows₀ slots rows s clock k × (t ≡ getD agenda k 0 / 128)
+Inv-loop d slots₀ to agenda rows₀ s₀ ended₀ k₀ t₀ slots rows s ended k t = (clock : ℕ) × Going d slots₀ to agenda rows₀ slots rows s ended clock k × (t ≡ getD agenda k 0 / 128)
 
 abbrev μ-loop : tie.MeasureT-loop
-μ-loop d slots₀ to agenda rows₀ s₀ k₀ t₀ slots rows s k t = to + 1 - t
+μ-loop d slots₀ to agenda rows₀ s₀ ended₀ k₀ t₀ slots rows s ended k t = to + 1 - t
 
 -- the places of a turn, each from the last
 abbrev turn : tie.After-take Inv-loop μ-loop → tie.In-loop Inv-loop μ-loop
@@ -34,7 +35,7 @@ taken-then c = rw (c .before .after-starts .ensures) at (c .take2 .ensures)
 
 -- after the moment
 passed : (c : tie.After-moment Inv-loop μ-loop) → let l = turn (ended (due c)) .before in let a = l .before .before .before .before .args in
-    Going (a .d) (a .slots .now) (a .to) (a .agenda .now) (a .rows .now) (c .moment .last .1 .0) (c .moment .last .1 .1 .1 .1 .1 .0) (c .moment .result) (l .loop .t) (due c .take2 .result .next)
+    Going (a .d) (a .slots .now) (a .to) (a .agenda .now) (a .rows .now) (c .moment .last .1 .0) (c .moment .last .1 .1 .1 .1 .1 .0) (c .moment .result) (bitOr (l .loop .ended) (ended (due c) .take .result .places)) (l .loop .t) (due c .take2 .result .next)
 passed c =
     let l = turn (ended (due c)) .before .loop in
     step (l .inv .1) (l .t) (l .inv .2) (turn (ended (due c)) .loop-test .taken) (taken (ended (due c))) (taken-then (due c)) (c .moment .ensures)
@@ -65,10 +66,10 @@ moment-requires c κs =
     ahead (l .inv .1) (l .t) (l .inv .2) (turn (ended then) .loop-test .taken) (taken (ended then)) (taken-then then)
 
 loop-less : tie.Need-loop-less Inv-loop μ-loop
-loop-less c = let at = turn (ended (due (c .before))) in omega (arith, next-later (passed (c .before)) (c .time-at2 .result) (c .time-at2 .ensures), at .loop-test .taken)
+loop-less c = let at = turn (ended (due (c .before .before))) in omega (arith, next-later (passed (c .before .before)) (c .time-at2 .result) (c .time-at2 .ensures), at .loop-test .taken)
 
 loop-again : tie.Need-loop-again Inv-loop μ-loop
-loop-again c = (turn (ended (due (c .before))) .before .loop .t, passed (c .before), c .time-at2 .ensures)
+loop-again c = (turn (ended (due (c .before .before))) .before .loop .t, passed (c .before .before), c .time-at2 .ensures)
 
 returns : tie.Need-returns Inv-loop μ-loop
 returns c = let l = c .before .loop in stop (l .inv .1) (l .t) (l .inv .2) (omega (arith, c .loop-test .left))
@@ -87,7 +88,7 @@ moments-spec =
     (λ c κs. omega (arith, turn c .loop-test .taken, turn c .before .loop .inv .1 .last))
     take-requires-2
     moment-requires
-    (λ c κs. due c .take2 .ensures .inside)
+    (λ c κs. due (c .before) .take2 .ensures .inside)
     loop-less
     loop-again
     returns)

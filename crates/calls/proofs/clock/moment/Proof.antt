@@ -13,17 +13,14 @@ entry c = c .before .before .before .before .before
 abbrev ended : tie.After-release → tie.After-report
 ended c = c .before .before
 
-abbrev released : tie.After-uncancelled → tie.After-release
+abbrev released : tie.After-start → tie.After-release
 released c = c .before .before
 
-abbrev sifted : tie.After-start → tie.After-uncancelled
-sifted c = c .before .before
-
 abbrev started : tie.After-report2 → tie.After-start
-started c = c .before .before .before
+started c = c .before .before .before .before
 
 abbrev lost : tie.After-report3 → tie.After-report2
-lost c = c .before .before .before
+lost c = c .before .before .before .before
 
 report-requires : tie.Need-report-requires
 report-requires c κs =
@@ -33,40 +30,34 @@ report-requires c κs =
 release-requires : tie.Need-release-requires
 release-requires c κs = let a = entry (c .before) .pre in (a .held .used .size, λ i e. omega (arith, ended-in a i e, a .held .used .few))
 
-uncancelled-requires : tie.Need-uncancelled-requires
-uncancelled-requires c κs = let a = entry (ended (c .before)) .pre in λ i e. omega (arith, a .starting i .0 e .0, a .held .used .few)
-
 start-requires : tie.Need-start-requires
 start-requires c κs =
-    let u = c .before in
-    let r = released u in
-    can-start (entry (ended r) .pre) (r .release .ensures) (u .uncancelled .result) (u .uncancelled .ensures)
+    let r = c .before in
+    can-start (entry (ended r) .pre) (r .release .ensures)
 
 report-requires-2 : tie.Need-report-requires-2
 unfolding cut join
 report-requires-2 c κs =
-    let s = c .before .before in
-    let u = sifted s in
-    let r = released u in
+    let s = c .before .before .before in
+    let r = released s in
     let one = ended r in
     let a = entry one .pre in (
       one .report .ensures .size ∙ a .size,
-      λ i e. omega (arith, losing-in a (r .release .ensures) (u .uncancelled .result) (u .uncancelled .ensures) (s .start .ensures) i e, a .held .used .few),
-      omega (arith, room a (r .release .ensures) (u .uncancelled .result) (u .uncancelled .ensures) (s .start .ensures), one .report .ensures .count),
+      λ i e. omega (arith, losing-in a (r .release .ensures) (s .start .ensures) i e, a .held .used .few),
+      omega (arith, room a (r .release .ensures) (s .start .ensures), one .report .ensures .count),
     )
 
 report-requires-3 : tie.Need-report-requires-3
 unfolding cut join
 report-requires-3 c κs =
-    let two = c .before .before in
+    let two = c .before .before .before in
     let s = started two in
-    let u = sifted s in
-    let r = released u in
+    let r = released s in
     let one = ended r in
     let a = entry one .pre in (
       two .report2 .ensures .size ∙ one .report .ensures .size ∙ a .size,
-      λ i e. omega (arith, starting-in a (r .release .ensures) (u .uncancelled .result) (u .uncancelled .ensures) (s .start .ensures) i e, a .held .used .few),
-      omega (arith, room a (r .release .ensures) (u .uncancelled .result) (u .uncancelled .ensures) (s .start .ensures), one .report .ensures .count, two .report2 .ensures .count),
+      λ i e. omega (arith, starting-in a (r .release .ensures) (s .start .ensures) i e, a .held .used .few),
+      omega (arith, room a (r .release .ensures) (s .start .ensures), one .report .ensures .count, two .report2 .ensures .count),
     )
 
 returns : tie.Need-returns
@@ -74,10 +65,9 @@ unfolding cut join
 returns c =
     let two = lost c in
     let s = started two in
-    let u = sifted s in
-    let r = released u in
+    let r = released s in
     let one = ended r in
-    past (entry one .pre) (r .release .ensures) (u .uncancelled .result) (u .uncancelled .ensures) (s .start .ensures) (one .report .ensures) (two .report2 .ensures) (c .report3 .ensures)
+    past (entry one .pre) (r .release .ensures) (s .start .ensures) (one .report .ensures) (two .report2 .ensures) (c .report3 .ensures)
 
 pub moment-spec : {M : Type 1} → statement M
-moment-spec = tie.close (tie.spec report-requires release-requires uncancelled-requires start-requires report-requires-2 report-requires-3 returns)
+moment-spec = tie.close (tie.spec report-requires release-requires start-requires report-requires-2 report-requires-3 returns)

@@ -2,10 +2,8 @@
 use mathlib.Core.Path.{_∙_}
 use Prim.Native.Nat.{_<_}
 use native.Mathlib.Omega.{arith}
-use lib.Count.{trailingZeros}
 use Rattle.rules.specs.Records.{mostEvents, mostRows}
-use Rattle.calls.proofs.Reporting.{Reporting, none-reported, next-place, has-room, report-next, all-reported}
-use Rattle.calls.proofs.Sets.{fewer}
+use Rattle.calls.proofs.Turns.{Reporting, none-reported, next-place, has-room, report-next, all-reported}
 use Rattle.calls.proofs.clock.report.Statement.{statement}
 use Rattle.calls.proofs.clock.report.Tie as tie
 
@@ -15,32 +13,18 @@ Inv-loop rows₀ from t slots set code at₀ rest₀ rows at rest = Reporting t 
 abbrev μ-loop : tie.MeasureT-loop
 μ-loop rows₀ from t slots set code at₀ rest₀ rows at rest = rest
 
-loop-holds : tie.Need-loop-holds Inv-loop μ-loop
-loop-holds c = none-reported _ _ _ _ _ _ (c .fits .set .fits) (c .pre .1)
+-- the row that comes next has a slot, and fits
+slot : (c : tie.After-lowest Inv-loop μ-loop) → c .lowest .result .place < mostEvents
+slot c = next-place _ _ _ _ (c .before .before .loop .inv) (c .lowest .ensures)
 
--- the next place is one of the slots', and its row fits
-next-slot : (d : tie.In-loop Inv-loop μ-loop) → trailingZeros 64 (d .before .loop .rest) < mostEvents
-next-slot d = next-place _ _ _ _ (d .before .loop .inv) (d .loop-test .taken)
-
-room : (d : tie.In-loop Inv-loop μ-loop) → d .before .loop .at < mostRows
-room d = has-room _ _ _ _ (d .before .loop .inv) (d .loop-test .taken) (d .before .before .pre .2)
-
-add-row-requires : tie.Need-add-row-requires Inv-loop μ-loop
-add-row-requires c κs =
-    let turn = c .before .before in
-    (turn .before .loop .inv .written .size ∙ turn .before .before .pre .0, room turn)
-
-loop-less : tie.Need-loop-less Inv-loop μ-loop
-loop-less c = let turn = c .before .before .before in let l = turn .before .loop in fewer 64 (l .rest) (l .inv .small) (turn .loop-test .taken)
+room : (c : tie.After-lowest Inv-loop μ-loop) → c .before .before .loop .at < mostRows
+room c = let l = c .before .before in has-room _ _ _ _ (l .loop .inv) (c .lowest .ensures) (l .before .pre .2)
 
 loop-again : tie.Need-loop-again Inv-loop μ-loop
 loop-again c =
     let read = c .before in
-    let turn = read .before .before in
-    report-next _ _ _ _ (turn .before .loop .inv) (turn .loop-test .taken) (rw (read .id-at .ensures) at (c .add-row .ensures))
-
-returns : tie.Need-returns Inv-loop μ-loop
-returns c = all-reported _ _ _ _ (c .before .loop .inv) (c .loop-test .left)
+    let next = read .before .before in
+    report-next _ _ _ _ (next .before .before .loop .inv) (next .lowest .ensures) (rw (read .id-at .ensures) at (c .add-row .ensures))
 
 pub report-spec : {M : Type 1} → statement M
 report-spec =
@@ -48,13 +32,11 @@ report-spec =
     (tie.spec
     Inv-loop
     μ-loop
-    loop-holds
-    (λ c. omega (arith, next-slot (c .before)))
-    (λ c κs. next-slot (c .before))
-    add-row-requires
+    (λ c. none-reported _ _ _ _ _ _ (c .pre .1))
+    (λ c κs. c .loop-test .taken)
+    (λ c κs. slot (c .before))
+    (λ c κs. let l = c .before .before .before .before in (l .loop .inv .written .size ∙ l .before .pre .0, room (c .before .before)))
     (λ c. omega (arith, room (c .before .before .before)))
-    (λ c. omega (arith, next-slot (c .before .before .before)))
-    (λ c. omega (arith, next-slot (c .before .before .before)))
-    loop-less
+    (λ c. c .before .before .before .lowest .ensures .less)
     loop-again
-    returns)
+    (λ c. all-reported _ _ _ _ (c .before .loop .inv) (c .loop-test .left)))

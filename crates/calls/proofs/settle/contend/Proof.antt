@@ -1,14 +1,12 @@
 -- The loop has met the holders that are not in the rest.
-use mathlib.Core.Path.{_≡_, sym, ap, ap₂, _∙_}
-use mathlib.Core.Logic.{⊎-elim}
+use mathlib.Core.Path.{_≡_, sym, ap₂, _∙_}
 use Prim.Native.Nat.{_<_}
 use native.Mathlib.Omega.{arith}
 use borrow.Author.Needs.{needs}
-use lib.Count.{trailingZeros}
+use lib.Bits.{bitAnd}
 use Rattle.rules.specs.Records.{cut, mostEvents}
 use Rattle.rules.specs.Holding.{better}
-use Rattle.calls.specs.Sets.{eventAt}
-use Rattle.calls.proofs.Sets.{next-below, fewer}
+use Rattle.calls.specs.Sets.{eventAt, maskAt, rankIn}
 use Rattle.calls.proofs.Contests.{same-event, same-rank, Contesting, none-met, met-below, met-mask, passes, yields, takes, contended}
 use Rattle.calls.proofs.settle.contend.Statement.{statement}
 use Rattle.calls.proofs.settle.contend.Tie as tie
@@ -19,66 +17,73 @@ Inv-loop d slots₀ holding i claim left₀ now₀ rest₀ slots left now rest =
 abbrev μ-loop : tie.MeasureT-loop
 μ-loop d slots₀ holding i claim left₀ now₀ rest₀ slots left now rest = rest
 
--- the place that is met has a slot
-there : (c : tie.In-loop Inv-loop μ-loop) → trailingZeros 64 (c .before .loop .rest) < mostEvents
-there c = let v = c .before .loop .inv .0 in omega (arith, met-below v (c .loop-test .taken), v .comes .held .used .few)
-
 loop-holds : tie.Need-loop-holds Inv-loop μ-loop
-loop-holds c =
-    let start = c .before .before in
-    (rw (c .controls-at .ensures) (none-met (start .pre) (start .fits .holding .fits)), c .controls-at .ensures)
+loop-holds c = (rw (c .controls-at .ensures) (none-met (c .before .before .pre)), c .controls-at .ensures)
+
+-- The holder that is met.
+
+abbrev loop : tie.After-lowest Inv-loop μ-loop → tie.At-loop Inv-loop μ-loop
+loop c = c .before .before
+
+abbrev met : tie.After-held-at Inv-loop μ-loop → tie.After-lowest Inv-loop μ-loop
+met c = c .before .before
+
+-- it has a slot
+there : (c : tie.After-lowest Inv-loop μ-loop) → c .lowest .result .place < mostEvents
+there c = let v = loop c .loop .inv .0 in omega (arith, met-below v (c .lowest .ensures), v .comes .held .used .few)
+
+-- its mask is what it was
+mask : (c : tie.After-held-at Inv-loop μ-loop) → c .held-at .result ≡ maskAt (loop (met c) .before .before .before .args .slots .now) (met c .lowest .result .place)
+mask c = c .held-at .ensures ∙ met-mask (loop (met c) .loop .inv .0) (met c .lowest .ensures)
+
+-- whether it is better
+ahead : (c : tie.After-is-ahead Inv-loop μ-loop) → let m = met (c .before .before .before .before) in
+    let a = loop m .before .before .before .args in
+    c .is-ahead .result ≡ better (rankIn (a .d .programs) (a .slots .now) (m .lowest .result .place)) (rankIn (a .d .programs) (a .slots .now) (a .i))
+ahead c =
+    let m = met (c .before .before .before .before) in
+    let a = loop m .before .before .before .args in
+    let v = loop m .loop .inv .0 .masks in
+    c .is-ahead .ensures ∙ ap₂ better (same-rank v (a .d .programs) (m .lowest .result .place)) (same-rank v (a .d .programs) (a .i))
 
 is-ahead-requires : tie.Need-is-ahead-requires Inv-loop μ-loop
 is-ahead-requires c κs =
-    let turn = c .before .before .before .before .before in
-    let v = turn .before .loop .inv .0 in
-    let place = there turn in
-    let numbered = v .comes .held .numbered in (
-      place,
+    let m = met (c .before .before .before) in
+    let v = loop m .loop .inv .0 in (
+      there m,
       omega (arith, v .comes .below, v .comes .held .used .few),
-      rw (same-event (v .masks)) (numbered _ (met-below v (turn .loop-test .taken))),
-      rw (same-event (v .masks)) (numbered _ (v .comes .below)),
+      rw (same-event (v .masks)) (v .comes .held .numbered _ (met-below v (m .lowest .ensures))),
+      rw (same-event (v .masks)) (v .comes .held .numbered _ (v .comes .below)),
     )
 
-hold-requires : tie.Need-hold-requires Inv-loop μ-loop
-hold-requires c κs =
-    let turn = c .before .before .before .before .before .before .before .before .before in
-    (there turn, turn .before .loop .inv .0 .masks .size)
-
-shl-rest : tie.Need-shl-rest Inv-loop μ-loop
-shl-rest c =
-    let turn = c .before .before .before in
-    let l = turn .before .loop in
-    next-below 64 (l .rest) (l .inv .0 .small) (turn .loop-test .taken)
-
-loop-less : tie.Need-loop-less Inv-loop μ-loop
-loop-less c =
-    let turn = c .before .before .before in
-    let l = turn .before .loop in
-    fewer 64 (l .rest) (l .inv .0 .small) (turn .loop-test .taken)
-
+-- a better one keeps what it has
 loop-again : tie.Need-loop-again Inv-loop μ-loop
 loop-again c =
-    let turn = c .before .before .before in
-    let l = turn .before .loop in
-    let v = l .inv .0 in
-    let some = turn .loop-test .taken in
-    let mask = c .before .held-at .ensures ∙ met-mask v some in
-    let a = turn .before .before .before .before .args in
-    let ps = a .d .programs in
-    let ranks = ap₂ better (same-rank (v .masks) ps (trailingZeros 64 (l .rest))) (same-rank (v .masks) ps (a .i)) in (
-      ⊎-elim
-          (λ w. rw (w .6, w .7, w .8, w .5 .ensures, mask) (yields v some (sym (w .3 .ensures ∙ ranks) ∙ w .4 .taken)))
-          (⊎-elim
-          (λ w. let lost = w .6 .ensures ∙ ap₂ cut mask (l .inv .1) in
-          rw (w .8, w .9, w .10) (takes v some (sym (w .3 .ensures ∙ ranks) ∙ w .4 .left) (rw lost at (w .7 .ensures .0)) (rw lost at (w .7 .ensures .1))))
-          (λ w. rw (w .1, w .2, w .3) (passes v some (rw (l .inv .1, mask) at (w .0 .left)))))
-          (c .if1 .came),
-      l .inv .1,
-    )
+    let tested = c .before .before in
+    let read = tested .before .before .before .before in
+    let m = met read in
+    let l = loop m .loop in
+    (rw (c .without .ensures, mask read) (yields (l .inv .0) (m .lowest .ensures) (sym (ahead tested) ∙ c .before .if2 .taken)), l .inv .1)
 
-hold-requires-2 : tie.Need-hold-requires-2 Inv-loop μ-loop
-hold-requires-2 c κs = let v = c .before .before .loop .inv .0 in (omega (arith, v .comes .below, v .comes .held .used .few), v .masks .size)
+-- any other loses what is claimed
+loop-again-2 : tie.Need-loop-again-2 Inv-loop μ-loop
+loop-again-2 c =
+    let cut-off = c .before in
+    let worse = cut-off .before .before in
+    let tested = worse .before in
+    let read = tested .before .before .before .before in
+    let m = met read in
+    let l = loop m .loop in
+    let lost = cut-off .without2 .ensures ∙ ap₂ cut (mask read) (l .inv .1) in
+    (takes (l .inv .0) (m .lowest .ensures) (sym (ahead tested) ∙ worse .if2 .left) (rw lost at (c .hold .ensures .0)) (rw lost at (c .hold .ensures .1)), l .inv .1)
+
+-- it has nothing that is claimed
+loop-again-3 : tie.Need-loop-again-3 Inv-loop μ-loop
+loop-again-3 c =
+    let read = c .before in
+    let m = met read in
+    let l = loop m .loop in
+    (passes (l .inv .0) (m .lowest .ensures) (sym (ap₂ bitAnd (l .inv .1) (mask read)) ∙ c .if1 .left), l .inv .1)
 
 returns : tie.Need-returns Inv-loop μ-loop
 returns c = let l = c .before .before .before in contended (l .loop .inv .0) (c .before .before .loop-test .left) (c .hold2 .ensures .0) (c .hold2 .ensures .1)
@@ -91,14 +96,17 @@ contend-spec =
     μ-loop
     (λ c κs. let p = c .before .pre in omega (arith, p .below, p .held .used .few))
     loop-holds
-    (λ c. record { fits = omega (arith, there c) })
+    (λ c κs. c .loop-test .taken)
     (λ c κs. there (c .before))
     is-ahead-requires
     (λ c κs. search needs)
     (λ c κs. search needs)
-    hold-requires
-    shl-rest
-    loop-less
+    (λ c κs. let m = met (c .before .before .before .before .before .before .before) in (there m, loop m .loop .inv .0 .masks .size))
+    (λ c. met (c .before .before .before .before .before .before) .lowest .ensures .less)
     loop-again
-    hold-requires-2
+    (λ c. met (c .before .before .before .before .before .before .before .before) .lowest .ensures .less)
+    loop-again-2
+    (λ c. met (c .before) .lowest .ensures .less)
+    loop-again-3
+    (λ c κs. let v = c .before .before .loop .inv .0 in (omega (arith, v .comes .below, v .comes .held .used .few), v .masks .size))
     returns)
