@@ -30,8 +30,8 @@ use Rattle.calls.specs.declared.agenda.Taken.{Taken}
 use Rattle.calls.specs.declared.clock.Due.{Due}
 use Rattle.calls.specs.declared.clock.Standing.{Standing}
 use Rattle.calls.specs.Slots.{slotState, scheduleOf, InUse, Ready}
-use Rattle.calls.specs.Sets.{eventAt, maskAt, placesTo, Numbered, SetOf, Holders, MasksOnly}
-use Rattle.calls.specs.Agenda.{nothing, Agenda, TakenTo}
+use Rattle.calls.specs.Sets.{eventAt, maskAt, placesTo, Numbered, SetOf, Holders, MasksOnly, setWidth}
+use Rattle.calls.specs.Agenda.{nothing, Agenda, TakenTo, secondWidth}
 use Rattle.calls.specs.Moment.{Distinct, OneHolderIn, Before, Ahead, Past}
 use Rattle.calls.specs.Written.{Written}
 use Rattle.calls.specs.Advanced.{Passes, Advances}
@@ -159,7 +159,7 @@ module _ {d : Head} {w : List (List ℕ)} {to : ℕ} {agenda old : List ℕ} {no
   same-stopped : (i : ℕ) → eventAt now i .cancelled ≡ eventAt w i .cancelled
   same-stopped i = ap (λ h. h .cancelled) (g .masks .each i)
 
-  module _ (t : ℕ) (e : t ≡ getD agenda k 0 / 128) where
+  module _ (t : ℕ) (e : t ≡ getD agenda k 0 / secondWidth) where
     pub next-later : clock < t
     next-later = later (g .planned) (g .ready .used .few) (g .last) (g .reached) (g .from) (g .order) e
 
@@ -193,7 +193,7 @@ module _ {d : Head} {w : List (List ℕ)} {to : ℕ} {agenda old : List ℕ} {no
 
     -- A moment up to the reading.
 
-    module _ (soon : t ≤ to) {p q : Taken} (u : TakenTo agenda k (t * 128 + 64) p) (v : TakenTo agenda (p .next) (t * 128 + 128) q) where
+    module _ (soon : t ≤ to) {p q : Taken} (u : TakenTo agenda k (t * secondWidth + setWidth) p) (v : TakenTo agenda (p .next) (t * secondWidth + secondWidth) q) where
       quiet : All (Idle clock (t - 1 - clock)) (keep (lasts clock) hs)
       quiet = still (t - 1) (omega (arith, next-later)) (omega arith) (omega (arith, next-later))
 
@@ -349,7 +349,7 @@ module _ {d : Head} {w : List (List ℕ)} {to : ℕ} {agenda old : List ℕ} {no
 module _ {d : Head} {w : List (List ℕ)} {to : ℕ} (r : Ready d w) where
   -- an agenda of nothing
   pub none-due : {agenda rows : List ℕ} → Agenda (d .clock) to (d .count) w agenda → d .clock ≤ to → to ≤ lastClock → length rows ≡ rowsSize → getD agenda 0 0 ≡ nothing → Passes d w to rows 0 0 w
-  none-due {agenda} g h l size e = stop (start r g h l size (some-holders w (d .count) .1)) (getD agenda 0 0 / 128) refl (omega (arith, e))
+  none-due {agenda} g h l size e = stop (start r g h l size (some-holders w (d .count) .1)) (getD agenda 0 0 / secondWidth) refl (omega (arith, e))
 
   module _ {rows : List ℕ} {ended count : ℕ} {mid : List (List ℕ)} (p : Passes d w to rows ended count mid) where
     pub in-use : InUse (d .count) mid

@@ -11,8 +11,8 @@ use Rattle.rules.specs.Records.{has, mostEvents, lastClock}
 use Rattle.rules.specs.Holding.{endOf}
 use Rattle.calls.specs.declared.agenda.Taken.{Taken}
 use Rattle.calls.specs.Slots.{entryOf}
-use Rattle.calls.specs.Sets.{SetOf}
-use Rattle.calls.specs.Agenda.{mostChanges, agendaSize, Change, Planned, Agenda, Stops, TakenTo}
+use Rattle.calls.specs.Sets.{SetOf, setWidth}
+use Rattle.calls.specs.Agenda.{mostChanges, agendaSize, Change, Planned, Agenda, Stops, TakenTo, secondWidth}
 
 -- the numbers below the bound stand before k, the others from k on
 pub record Divided (a : List ℕ) (bound k : ℕ) : Type 0 where
@@ -22,7 +22,7 @@ pub record Divided (a : List ℕ) (bound k : ℕ) : Type 0 where
 
 -- the changes up to the second c lie before k, the others from k on
 abbrev pub Reached : List ℕ → ℕ → ℕ → Type 0
-Reached a c k = Divided a ((c + 1) * 128) k
+Reached a c k = Divided a ((c + 1) * secondWidth) k
 
 -- start and end of the event in slot i
 abbrev beginOf : List (List ℕ) → ℕ → ℕ
@@ -47,7 +47,7 @@ module _ {clock to n : ℕ} {w : List (List ℕ)} {a : List ℕ} (g : Agenda clo
 
   module _ {low high k : ℕ} {p : Taken} (d : Divided a low k) (u : TakenTo a k high p) where
     -- what is taken are the numbers between two bounds
-    between : (i : ℕ) → (has (p .places) i ≡ true) ↔ ((j : ℕ) × (j < agendaSize) × (low ≤ getD a j 0) × (getD a j 0 < high) × (getD a j 0 % 64 ≡ i))
+    between : (i : ℕ) → (has (p .places) i ≡ true) ↔ ((j : ℕ) × (j < agendaSize) × (low ≤ getD a j 0) × (getD a j 0 < high) × (getD a j 0 % setWidth ≡ i))
     between i = (
       λ e. let o = u .places i .0 e in
           let l : o .0 < agendaSize = omega (arith, u .inside, o .2) in
@@ -78,12 +78,12 @@ module _ {clock to n : ℕ} {w : List (List ℕ)} {a : List ℕ} (g : Agenda clo
   }
 
   -- the next moment: of the change at k
-  module _ {c k t : ℕ} (r : Reached a c k) (from : clock ≤ c) (upto : c ≤ to) (e : t ≡ getD a k 0 / 128) where
+  module _ {c k t : ℕ} (r : Reached a c k) (from : clock ≤ c) (upto : c ≤ to) (e : t ≡ getD a k 0 / secondWidth) where
     pub later : c < t
     later = omega (arith, r .coming k (omega arith) (r .inside))
 
     -- a change after c is not before that at k
-    not-before : (x : ℕ) → Planned a x → (c + 1) * 128 ≤ x → getD a k 0 ≤ x
+    not-before : (x : ℕ) → Planned a x → (c + 1) * secondWidth ≤ x → getD a k 0 ≤ x
     not-before x p l = omega (arith, p .2, g .ascends k (p .0) (by-contra k (p .0) (λ h. omega (arith, r .past (p .0) h, p .2))) (p .1))
 
     pub no-start : (i : ℕ) → i < n → stoppedOf w i ≡ false → c < beginOf w i → beginOf w i ≤ to → t ≤ beginOf w i
@@ -94,14 +94,14 @@ module _ {clock to n : ℕ} {w : List (List ℕ)} {a : List ℕ} (g : Agenda clo
 
     -- if it is up to the reading, then what ends in it, and then what starts
     module _ (soon : t ≤ to) where
-      pub stops-ends : Stops a k (t * 128 + 64)
+      pub stops-ends : Stops a k (t * secondWidth + setWidth)
       stops-ends = (mostChanges, omega (arith, r .inside), omega arith, omega (arith, g .ends))
 
-      reached : Divided a (t * 128) k
+      reached : Divided a (t * secondWidth) k
       reached = raised r (omega (arith, later)) (omega arith)
 
       -- a number before the next second is a change of the event whose place it has
-      of-event : (j i : ℕ) → j < agendaSize → getD a j 0 < t * 128 + 128 → getD a j 0 % 64 ≡ i
+      of-event : (j i : ℕ) → j < agendaSize → getD a j 0 < t * secondWidth + secondWidth → getD a j 0 % setWidth ≡ i
           → (i < n) × Change clock to (entryOf (getD w i [])) i (getD a j 0)
       of-event j i l h m =
           ⊎-elim (λ z. absurd (omega arith))
@@ -109,8 +109,8 @@ module _ {clock to n : ℕ} {w : List (List ℕ)} {a : List ℕ} (g : Agenda clo
           subst (λ x. (x < n) × Change clock to (entryOf (getD w x [])) x (getD a j 0)) e (o .1, o .2))
           (g .only j l)
 
-      module _ {p : Taken} (u : TakenTo a k (t * 128 + 64) p) where
-        pub stops-starts : Stops a (p .next) (t * 128 + 128)
+      module _ {p : Taken} (u : TakenTo a k (t * secondWidth + setWidth) p) where
+        pub stops-starts : Stops a (p .next) (t * secondWidth + secondWidth)
         stops-starts = (mostChanges, omega (arith, u .inside), omega arith, omega (arith, g .ends))
 
         pub ending : SetOf n (λ i. finishOf w i ≡ t) (p .places)
@@ -122,10 +122,10 @@ module _ {clock to n : ℕ} {w : List (List ℕ)} {a : List ℕ} (g : Agenda clo
               between reached u i .1 (o .0, o .1, omega (arith, o .2, h .1), omega (arith, o .2, h .1), omega (arith, o .2)),
         )
 
-        started : Divided a (t * 128 + 64) (p .next)
+        started : Divided a (t * secondWidth + setWidth) (p .next)
         started = after reached u (omega arith)
 
-        module _ {s : Taken} (v : TakenTo a (p .next) (t * 128 + 128) s) where
+        module _ {s : Taken} (v : TakenTo a (p .next) (t * secondWidth + secondWidth) s) where
           pub starting : SetOf n (λ i. (beginOf w i ≡ t) × (stoppedOf w i ≡ false)) (s .places)
           starting i = (
             λ h. let o = between started v i .0 h in

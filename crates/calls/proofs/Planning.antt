@@ -16,6 +16,7 @@ use Rattle.rules.specs.Holding.{endOf}
 use Rattle.rules.proofs.Tests.{each-true}
 use Rattle.rules.proofs.Masks.{has-join, not-has}
 use Rattle.calls.specs.Slots.{entryOf}
+use Rattle.calls.specs.Sets.{setWidth}
 use Rattle.calls.specs.Agenda.{mostChanges, agendaSize, endAt, startAt, nothing, Change, Planned, Agenda, Filled, Inserted, Stops, TakenTo}
 use Rattle.calls.proofs.Controls.{has-self, has-only}
 use Rattle.calls.proofs.Contending.{same}
@@ -181,7 +182,7 @@ pub record Taking (a : List ℕ) (from bound m next : ℕ) : Type 0 where
   pub onward : from ≤ next
   pub left : Stops a next bound
   pub below : (j : ℕ) → from ≤ j → j < next → getD a j 0 < bound
-  pub places : (i : ℕ) → (has m i ≡ true) ↔ ((j : ℕ) × (from ≤ j) × (j < next) × (getD a j 0 % 64 ≡ i))
+  pub places : (i : ℕ) → (has m i ≡ true) ↔ ((j : ℕ) × (from ≤ j) × (j < next) × (getD a j 0 % setWidth ≡ i))
 
 pub taken-none : {a : List ℕ} {from bound : ℕ} → Stops a from bound → Taking a from bound 0 from
 taken-none s = record {
@@ -199,7 +200,7 @@ taken-all t h = record { onward = t .onward; inside = omega (arith, t .left); be
 module _ {a : List ℕ} {from bound m next : ℕ} (t : Taking a from bound m next) (h : getD a next 0 < bound) where
   -- its place
   abbrev here : ℕ
-  here = getD a next 0 % 64
+  here = getD a next 0 % setWidth
 
   -- that which stops is not this one
   left-more : Stops a (next + 1) bound
@@ -208,10 +209,10 @@ module _ {a : List ℕ} {from bound m next : ℕ} (t : Taking a from bound m nex
       (l .0, by-contra (next + 1) (l .0) (λ q. let e : l .0 ≡ next = omega (arith, l .1) in omega (arith, rw e at (l .3))), l .2, l .3)
 
   -- a place that it has is that of one before, or this
-  old-or-here : (i : ℕ) → has m i || has (2 ^ here) i ≡ true → (j : ℕ) × (from ≤ j) × (j < next + 1) × (getD a j 0 % 64 ≡ i)
+  old-or-here : (i : ℕ) → has m i || has (2 ^ here) i ≡ true → (j : ℕ) × (from ≤ j) × (j < next + 1) × (getD a j 0 % setWidth ≡ i)
   old-or-here i e = go (has m i) refl
     where
-      go : (b : Bool) → has m i ≡ b → (j : ℕ) × (from ≤ j) × (j < next + 1) × (getD a j 0 % 64 ≡ i)
+      go : (b : Bool) → has m i ≡ b → (j : ℕ) × (from ≤ j) × (j < next + 1) × (getD a j 0 % setWidth ≡ i)
       go true p = let o = t .places i .0 p in (o .0, o .1, omega (arith, o .2), o .3)
       go false p = (next, t .onward, omega arith, sym (has-only here i (rw p at e)))
 
@@ -224,7 +225,7 @@ module _ {a : List ℕ} {from bound m next : ℕ} (t : Taking a from bound m nex
     places = λ i. (
       λ e. old-or-here i (rw has-join at e),
       λ o. rw has-join
-          (below-more (λ k. from ≤ k → getD a k 0 % 64 ≡ i → has m i || has (2 ^ here) i ≡ true) next
+          (below-more (λ k. from ≤ k → getD a k 0 % setWidth ≡ i → has m i || has (2 ^ here) i ≡ true) next
           (λ k l p e. rw (t .places i .1 (k, p, l, e)))
           (λ p e. rw (e, has-self, or-true))
           (o .0) (o .2) (o .1) (o .3)),

@@ -10,6 +10,7 @@ use Rattle.rules.specs.Records.{has, mostEvents}
 use Rattle.rules.specs.Holding.{endOf}
 use Rattle.calls.specs.declared.agenda.Taken.{Taken}
 use Rattle.calls.specs.Slots.{entryOf}
+use Rattle.calls.specs.Sets.{setWidth}
 
 -- an event begins once and ends once
 abbrev pub mostChanges : ℕ
@@ -19,12 +20,16 @@ mostChanges = 2 * mostEvents
 abbrev pub agendaSize : ℕ
 agendaSize = mostChanges + 1
 
+-- a second has a number for the end and one for the start of each place
+abbrev pub secondWidth : ℕ
+secondWidth = 2 * setWidth
+
 -- a change as one number, so that numbers ascend as changes come: by time, ends before starts, then by place
 abbrev pub endAt : ℕ → ℕ → ℕ
-endAt t i = t * 128 + i
+endAt t i = t * secondWidth + i
 
 abbrev pub startAt : ℕ → ℕ → ℕ
-startAt t i = t * 128 + (64 + i)
+startAt t i = t * secondWidth + (setWidth + i)
 
 -- the end mark, after every change
 abbrev pub nothing : ℕ
@@ -69,4 +74,4 @@ pub record TakenTo (a : List ℕ) (from bound : ℕ) (r : Taken) : Type 0 where
   pub inside : r .next < agendaSize
   pub below : (j : ℕ) → from ≤ j → j < r .next → getD a j 0 < bound
   pub stop : bound ≤ getD a (r .next) 0
-  pub places : (i : ℕ) → (has (r .places) i ≡ true) ↔ ((j : ℕ) × (from ≤ j) × (j < r .next) × (getD a j 0 % 64 ≡ i))
+  pub places : (i : ℕ) → (has (r .places) i ≡ true) ↔ ((j : ℕ) × (from ≤ j) × (j < r .next) × (getD a j 0 % setWidth ≡ i))

@@ -29,6 +29,10 @@ rankIn ps w i = rankOf ps (eventAt w i .event)
 abbrev pub Numbered : ℕ → List (List ℕ) → Type 0
 Numbered n w = (i : ℕ) → i < n → eventAt w i .event .program < mostPrograms
 
+-- how many places a set can have
+abbrev pub setWidth : ℕ
+setWidth = 64
+
 -- the places before n
 unfoldable pub placesTo : ℕ → List ℕ
 placesTo zero = []

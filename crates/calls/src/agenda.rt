@@ -5,7 +5,9 @@ ghost use lib.Dec.{leb, ltb};
 ghost use Prim.Native.Nat.{_+_, _-_, _*_, _/_, _<_, _≤_};
 ghost use lib.ListN.{length, getD, replicate};
 ghost use Rattle.rules.specs.Records.{mostEvents, lastClock};
-ghost use Rattle.calls.specs.Agenda.{mostChanges, agendaSize, endAt, startAt, nothing, Agenda, Filled, Inserted, Stops, TakenTo};
+ghost use Rattle.calls.specs.Sets.{setWidth};
+ghost use Rattle.calls.specs.Agenda.{mostChanges, agendaSize, secondWidth, endAt, startAt, nothing, Agenda, Filled, Inserted, Stops, TakenTo};
+use crate::bits;
 use crate::held;
 use crate::held::Slots;
 use rules::Schedule;
@@ -18,19 +20,22 @@ pub(crate) type Agenda = [u64; AGENDA_SIZE];
 // The end mark: no change is as late.
 pub(crate) const NOTHING: u64 = 0xFFFF_FFFF_FFFF_FFFF;
 
+// A second has a number for the end and one for the start of each place.
+const SECOND_WIDTH: u64 = 2 * bits::SET_WIDTH;
+
 // The end of the event at place i as one number, and its start.
 fn end_at(t: u64, i: usize) -> u64
     requires { ⌜ (t ≤ lastClock) × (i < mostEvents) ⌝ }
     ensures { λ r. ⌜ r ≡ endAt t i ⌝ }
 {
-    t * 128 + i as u64
+    t * SECOND_WIDTH + i as u64
 }
 
 fn start_at(t: u64, i: usize) -> u64
     requires { ⌜ (t ≤ lastClock) × (i < mostEvents) ⌝ }
     ensures { λ r. ⌜ r ≡ startAt t i ⌝ }
 {
-    t * 128 + 64 + i as u64
+    t * SECOND_WIDTH + bits::SET_WIDTH + i as u64
 }
 
 // Whether there is a change before place j, and it is later than x.
@@ -102,7 +107,7 @@ pub(crate) fn take(agenda: &Agenda, from: usize, bound: u64) -> Taken
     let mut places: u64 = 0;
     let mut next = from;
     while agenda[next] < bound {
-        places |= 1 << (agenda[next] % 64);
+        places |= 1 << (agenda[next] % bits::SET_WIDTH);
         next += 1;
     }
     Taken { places, next }
@@ -111,22 +116,22 @@ pub(crate) fn take(agenda: &Agenda, from: usize, bound: u64) -> Taken
 // The time of the change at place k.
 pub(crate) fn time_at(agenda: &Agenda, k: usize) -> u64
     requires { ⌜ k < agendaSize ⌝ }
-    ensures { λ r. ⌜ r ≡ getD (now (agenda .entry)) k 0 / 128 ⌝ }
+    ensures { λ r. ⌜ r ≡ getD (now (agenda .entry)) k 0 / secondWidth ⌝ }
 {
-    agenda[k] / 128
+    agenda[k] / SECOND_WIDTH
 }
 
 // The bounds of a moment: its ends come before the first, its starts before the second.
 pub(crate) fn after_ends(t: u64) -> u64
     requires { ⌜ t ≤ lastClock ⌝ }
-    ensures { λ r. ⌜ r ≡ t * 128 + 64 ⌝ }
+    ensures { λ r. ⌜ r ≡ t * secondWidth + setWidth ⌝ }
 {
-    t * 128 + 64
+    t * SECOND_WIDTH + bits::SET_WIDTH
 }
 
 pub(crate) fn after_starts(t: u64) -> u64
     requires { ⌜ t ≤ lastClock ⌝ }
-    ensures { λ r. ⌜ r ≡ t * 128 + 128 ⌝ }
+    ensures { λ r. ⌜ r ≡ t * secondWidth + secondWidth ⌝ }
 {
-    t * 128 + 128
+    t * SECOND_WIDTH + SECOND_WIDTH
 }

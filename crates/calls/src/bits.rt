@@ -2,7 +2,10 @@
 ghost use mathlib.Core.Path.{_≡_};
 ghost use Prim.Native.Nat.{_<_};
 ghost use Rattle.rules.specs.Records.{has};
-ghost use Rattle.calls.specs.Sets.{Lowest};
+ghost use Rattle.calls.specs.Sets.{setWidth, Lowest};
+
+// How many places a set can have.
+pub(crate) const SET_WIDTH: u64 = 64;
 
 // The lowest place of a set, and the set without it.
 pub(crate) struct Next {
@@ -23,7 +26,7 @@ pub(crate) fn lowest(set: u64) -> Next
 
 // Whether place i is in a set.
 pub(crate) fn contains(set: u64, i: usize) -> bool
-    requires { ⌜ i < 64 ⌝ }
+    requires { ⌜ i < setWidth ⌝ }
     ensures { λ r. ⌜ r ≡ has set i ⌝ }
 {
     (set >> (i as u64)) % 2 == 1

@@ -4,14 +4,15 @@ use Prim.Native.Nat.{ℕ, _+_, _-_, _*_, _/_}
 use native.Mathlib.Omega.{arith}
 use lib.Bits.{bitOr}
 use lib.ListN.{getD}
-use Rattle.calls.specs.Agenda.{TakenTo}
+use Rattle.calls.specs.Sets.{setWidth}
+use Rattle.calls.specs.Agenda.{TakenTo, secondWidth}
 use Rattle.calls.proofs.AgendaLaws.{stops-ends, stops-starts}
 use Rattle.calls.proofs.Advancing.{Going, start, next-later, ahead, step, stop}
 use Rattle.calls.proofs.advance.moments.Statement.{statement}
 use Rattle.calls.proofs.advance.moments.Tie as tie
 
 abbrev Inv-loop : tie.InvT-loop
-Inv-loop d slots₀ to agenda rows₀ s₀ ended₀ k₀ t₀ slots rows s ended k t = (clock : ℕ) × Going d slots₀ to agenda rows₀ slots rows s ended clock k × (t ≡ getD agenda k 0 / 128)
+Inv-loop d slots₀ to agenda rows₀ s₀ ended₀ k₀ t₀ slots rows s ended k t = (clock : ℕ) × Going d slots₀ to agenda rows₀ slots rows s ended clock k × (t ≡ getD agenda k 0 / secondWidth)
 
 abbrev μ-loop : tie.MeasureT-loop
 μ-loop d slots₀ to agenda rows₀ s₀ ended₀ k₀ t₀ slots rows s ended k t = to + 1 - t
@@ -27,10 +28,10 @@ abbrev due : tie.After-moment Inv-loop μ-loop → tie.After-take2 Inv-loop μ-l
 due c = c .before .before .before
 
 -- what ends, and what starts
-taken : (c : tie.After-take Inv-loop μ-loop) → let l = turn c .before in TakenTo (l .before .before .before .before .args .agenda .now) (l .loop .k) (l .loop .t * 128 + 64) (c .take .result)
+taken : (c : tie.After-take Inv-loop μ-loop) → let l = turn c .before in TakenTo (l .before .before .before .before .args .agenda .now) (l .loop .k) (l .loop .t * secondWidth + setWidth) (c .take .result)
 taken c = rw (c .before .after-ends .ensures) at (c .take .ensures)
 
-taken-then : (c : tie.After-take2 Inv-loop μ-loop) → let l = turn (ended c) .before in TakenTo (l .before .before .before .before .args .agenda .now) (ended c .take .result .next) (l .loop .t * 128 + 128) (c .take2 .result)
+taken-then : (c : tie.After-take2 Inv-loop μ-loop) → let l = turn (ended c) .before in TakenTo (l .before .before .before .before .args .agenda .now) (ended c .take .result .next) (l .loop .t * secondWidth + secondWidth) (c .take2 .result)
 taken-then c = rw (c .before .after-starts .ensures) at (c .take2 .ensures)
 
 -- after the moment

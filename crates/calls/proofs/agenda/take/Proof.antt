@@ -5,6 +5,7 @@ use native.Mathlib.Omega.{arith}
 use borrow.Author.Needs.{needs}
 use lib.ListN.{getD}
 use lib.Pow.{shl-exact}
+use Rattle.calls.specs.Sets.{setWidth}
 use Rattle.calls.specs.Agenda.{agendaSize}
 use Rattle.calls.proofs.Planning.{Taking, taken-none, taken-more, taken-all}
 use Rattle.calls.proofs.agenda.take.Statement.{statement}
@@ -21,7 +22,7 @@ loop-again c =
     let at = c .before .before .before in
     let l = at .loop in
     let x = getD (at .before .args .agenda .now) (l .next) 0 in
-    rw (shl-exact {a = 1} 1 (x % 64) 64 (omega arith) (omega arith), one-mul) (taken-more (l .inv) (omega arith))
+    rw (shl-exact {a = 1} 1 (x % setWidth) 64 (omega arith) (omega arith), one-mul) (taken-more (l .inv) (omega arith))
 
 returns : tie.Need-returns Inv-loop μ-loop
 returns c = let at = c .before .before in taken-all (at .loop .inv) (omega arith)
