@@ -12,7 +12,7 @@ use lib.ListN.{length, getD, length-append}
 use borrow.Author.Tests.{lt-ltb, le-ltb, ltb-true, ltb-false}
 use Rattle.rules.specs.declared.Entry.{Entry}
 use Rattle.rules.specs.declared.Program.{Program}
-use Rattle.rules.specs.Lists.{keep, In, All, Pairwise}
+use Rattle.rules.specs.Lists.{keep, All, Pairwise}
 use Rattle.rules.specs.Records.{has, join, idOf, noEntry, lastClock, view, pad, mostRows}
 use Rattle.rules.specs.Holding.{holdingAt, withHolding, endOf}
 use Rattle.rules.specs.Rows.{Row, rowsAt}

@@ -3,19 +3,15 @@ use mathlib.Core.Path.{_≡_, refl, sym, ap, _∙_}
 use Prim.Native.Nat.{ℕ, zero, suc, _+_, _-_, _*_, _/_, _%_, _^_, _<_, _≤_}
 use native.Mathlib.Nat.{one-mul, pow-suc, div-eq-of-lt, lt-of-not-le}
 use native.Mathlib.Omega.{arith}
-use mathlib.Core.Bool.{Bool, true, false, and-true, and-false, or-true}
-use mathlib.Core.List.{List}
-use lib.ListN.{length, getD, set, List·getD-eq-default}
-use lib.Seq.{getD-set-same, getD-set-other}
+use mathlib.Core.Bool.{Bool, true, false, and-true, and-false}
 use lib.Pow.{pow-add, pow-lt, pow-mono, pow-pos, shl-shr}
-use lib.Bits.{bitAnd, bitOr, bitXor, and-shr, and-mod, and-le-r, xor-add-and}
+use lib.Bits.{bitAnd, bitXor, and-le-r, xor-add-and}
 use lib.Count.{trailingZeros, under}
 use lib.Dec.{ltb}
-use borrow.Author.Tests.{eqb-true, ltb-true, ltb-false, ne-eqb}
-use borrow.Author.Count.{below-more}
-use Rattle.rules.specs.Records.{has, cut, join}
+use borrow.Author.Tests.{ltb-true, ltb-false, ne-eqb}
+use Rattle.rules.specs.Records.{has, cut}
 use Rattle.rules.proofs.Tests.{both}
-use Rattle.rules.proofs.Masks.{has-and, has-cut, has-half, odd, cut-apart}
+use Rattle.rules.proofs.Masks.{has-and, has-cut, has-half, odd}
 
 -- what is too small for a control has it not
 has-above : (m k : ℕ) → m < 2 ^ k → has m k ≡ false

@@ -1,5 +1,4 @@
 -- What belongs to no one function.
-pub mod Fill  -- an array filled from the front, one place more
 pub mod Puts  -- bytes and rows written one after the other
 pub mod Undropped  -- moments without dropping what has ended are the moments
 pub mod Reached  -- what stands at a place of a list

@@ -1,11 +1,11 @@
 -- A moment on slots is the moment of the definitions: what each event holds after it, and its rows.
 use mathlib.Core.Path.{_≡_, refl, sym, ap, ap₂, _∙_, fun-ext, subst}
-use mathlib.Core.Logic.{_↔_, _⊎_, inl, inr, ⊎-elim}
+use mathlib.Core.Logic.{_⊎_, ⊎-elim}
 use Prim.Native.Nat.{ℕ, _+_, _-_, _<_, _≤_}
 use native.Mathlib.Omega.{arith}
 use mathlib.Core.Bool.{Bool, true, false, cond, not, _&&_, _||_, and-false}
-use mathlib.Core.List.{List, [], _∷_, _++_, map, map-map}
-use lib.Bits.{bitAnd, bitOr, bitXor}
+use mathlib.Core.List.{List, _++_, map, map-map}
+use lib.Bits.{bitAnd}
 use lib.Dec.{eqb}
 use lib.ListN.{length, getD, length-append}
 use borrow.Author.Tests.{eqb-true, eqb-false}
@@ -13,23 +13,22 @@ use Rattle.rules.specs.declared.Entry.{Entry}
 use Rattle.rules.specs.declared.Program.{Program}
 use Rattle.rules.specs.Lists.{keep, In}
 use Rattle.rules.specs.Records.{has, cut, join, idOf, noEntry, mostEvents, mostRows}
-use Rattle.rules.specs.Holding.{Rank, better, rankOf, claim, taken, heldAt, Holding, holdingAt, endOf}
+use Rattle.rules.specs.Holding.{better, rankOf, claim, heldAt, Holding, holdingAt}
 use Rattle.rules.specs.Rows.{Row, codeAt, rowOf, rowsWith, rowsFrom, rowsAt}
 use Rattle.rules.proofs.Tests.{both, each-true}
 use Rattle.rules.proofs.Masks.{has-and, has-cut, has-join, has-either}
 use Rattle.rules.proofs.Nobody.{has-ext}
 use Rattle.rules.proofs.Ranks.{better-self}
 use Rattle.rules.proofs.ListLaws.{in-keep, keep-map, keep-cong, map-cong}
-use Rattle.rules.proofs.Claims.{claim-ended}
 use Rattle.rules.proofs.Holders.{taken-has, has-taken, held-if, if-held}
 use Rattle.calls.specs.declared.held.Head.{Head}
 use Rattle.calls.specs.declared.clock.Due.{Due}
 use Rattle.calls.specs.declared.clock.Standing.{Standing}
-use Rattle.calls.specs.Slots.{entryOf, slotState}
+use Rattle.calls.specs.Slots.{slotState}
 use Rattle.calls.specs.Sets.{eventAt, maskAt, rankIn, placesTo, Holders, MasksOnly, setRows}
 use Rattle.calls.specs.Settled.{Settled}
 use Rattle.calls.specs.Written.{Written}
-use Rattle.calls.specs.Moment.{CanStart, Started, Released, Before, Ahead, Past}
+use Rattle.calls.specs.Moment.{CanStart, Started, Released, Ahead, Past}
 use Rattle.calls.proofs.Reached.{at-in, in-at}
 use Rattle.calls.proofs.Slots.{in-slots, slot-at}
 use Rattle.calls.proofs.Puts.{rows-then}

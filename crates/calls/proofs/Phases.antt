@@ -1,16 +1,16 @@
 -- What an event does at a moment: nothing, end, start or hold on. Its claim and its code follow.
-use mathlib.Core.Path.{_≡_, refl, sym, ap, _∙_}
+use mathlib.Core.Path.{_≡_, refl, sym, _∙_}
 use mathlib.Core.Logic.{_⊎_, inl, inr, ⊎-elim}
-use Prim.Native.Nat.{ℕ, _<_, _≤_}
+use Prim.Native.Nat.{ℕ, _<_}
 use native.Mathlib.Omega.{arith}
 use native.Mathlib.Nat.{lt-of-not-le}
 use mathlib.Core.Bool.{Bool, true, false, cond, not, _&&_, _||_}
-use lib.Dec.{eqb, leb, ltb}
-use borrow.Author.Tests.{eqb-true, eqb-false, eq-eqb, ne-eqb, le-leb, lt-leb, le-ltb}
+use lib.Dec.{eqb}
+use borrow.Author.Tests.{eqb-true, eqb-false, eq-eqb, ne-eqb, lt-leb, le-ltb}
 use Rattle.rules.specs.declared.Entry.{Entry}
 use Rattle.rules.specs.Holding.{endOf, claim, Holding}
 use Rattle.rules.specs.Rows.{codeAt}
-use Rattle.rules.proofs.Tests.{both, cond-same}
+use Rattle.rules.proofs.Tests.{cond-same}
 use Rattle.rules.proofs.Claims.{claim-cancelled, claim-ended, code-cancelled}
 use Rattle.calls.specs.Moment.{Before}
 

@@ -1,5 +1,5 @@
 -- The moments of the agenda, if it has any; then what has ended is dropped, if anything has.
-use mathlib.Core.Path.{_≡_, refl}
+use mathlib.Core.Path.{refl}
 use mathlib.Core.Logic.{⊎-elim}
 use borrow.Author.Needs.{needs}
 use Rattle.calls.specs.Slots.{Ready}

@@ -1,5 +1,5 @@
 -- The slot with another mask takes its place. The bit of the place is cut from the set, and joined to it again if the mask is not 0.
-use mathlib.Core.Path.{_≡_, ap, _∙_}
+use mathlib.Core.Path.{ap, _∙_}
 use mathlib.Core.List.{[]}
 use native.Mathlib.Omega.{arith}
 use native.Mathlib.Nat.{one-mul}
