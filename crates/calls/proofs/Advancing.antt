@@ -65,9 +65,6 @@ module _ {d : Head} {w : List (List ℕ)} (r : Ready d w) where
       go false true x y = absurd (f j i (ltb-true j i y) l (g i j p))
       go false false x y = omega (arith, ltb-false i j x, ltb-false j i y)
 
-  us : List Entry
-  us = slotState d w .entries
-
   pair-at : (R : Entry → Entry → Type 0) → Pairwise R (slotState d w .entries) → (i j : ℕ) → i < j → j < d .count → R (eventAt w i) (eventAt w j)
   pair-at R h i j l m =
       subst (λ x. R x (eventAt w j)) (us-at d w (within r) i (omega arith))
@@ -161,16 +158,16 @@ module _ {d : Head} {w : List (List ℕ)} {to : ℕ} {agenda old : List ℕ} {no
 
   module _ (t : ℕ) (e : t ≡ getD agenda k 0 / secondWidth) where
     pub next-later : clock < t
-    next-later = later (g .planned) (g .ready .used .few) (g .last) (g .reached) (g .from) (g .order) e
+    next-later = later (g .planned) (g .ready .used .few) (g .last) (g .reached) (g .from) e
 
     -- Nothing begins or ends before the next moment.
 
     module _ (u : ℕ) (b : u < t) (c : u ≤ to) where
       clear-start : (i : ℕ) → i < d .count → eventAt w i .cancelled ≡ false → clock < eventAt w i .begins → u < eventAt w i .begins
-      clear-start i l o h = lt-of-not-le (λ m. omega (arith, no-start (g .planned) (g .ready .used .few) (g .last) (g .reached) (g .from) (g .order) e i l o h (omega arith)))
+      clear-start i l o h = lt-of-not-le (λ m. omega (arith, no-start (g .planned) (g .ready .used .few) (g .last) (g .reached) (g .from) e i l o h (omega arith)))
 
       clear-end : (i : ℕ) → i < d .count → clock < endOf (eventAt w i) → u < endOf (eventAt w i)
-      clear-end i l h = lt-of-not-le (λ m. omega (arith, no-end (g .planned) (g .ready .used .few) (g .last) (g .reached) (g .from) (g .order) e i l h (omega arith)))
+      clear-end i l h = lt-of-not-le (λ m. omega (arith, no-end (g .planned) (g .ready .used .few) (g .last) (g .reached) (g .from) e i l h (omega arith)))
 
       still : clock ≤ u → All (Idle clock (u - clock)) (keep (lasts clock) hs)
       still a o m =
@@ -252,8 +249,8 @@ module _ {d : Head} {w : List (List ℕ)} {to : ℕ} {agenda old : List ℕ} {no
         distinct = λ i j l m h. distinct (g .ready) i j l m (ap idOf (sym (same-event (g .masks) i)) ∙ h ∙ ap idOf (same-event (g .masks) j));
         before = before-it;
         apart = g .apart;
-        ending = λ i. rw (same-end i) (ending (g .planned) (g .ready .used .few) (g .last) (g .reached) (g .from) (g .order) e soon u i);
-        starting = λ i. rw (same-begin i, same-stopped i) (starting (g .planned) (g .ready .used .few) (g .last) (g .reached) (g .from) (g .order) e soon u v i);
+        ending = λ i. rw (same-end i) (ending (g .planned) (g .ready .used .few) (g .last) (g .reached) (g .from) e soon u i);
+        starting = λ i. rw (same-begin i, same-stopped i) (starting (g .planned) (g .ready .used .few) (g .last) (g .reached) (g .from) e soon u v i);
         size = g .written .size ∙ g .size;
         room = room;
       }
@@ -275,7 +272,7 @@ module _ {d : Head} {w : List (List ℕ)} {to : ℕ} {agenda old : List ℕ} {no
         over-next i = rw (has-join ended (p .places) i) (to-now (has ended i) refl, from-now)
           where
             ends-now : SetOf (d .count) (λ i. endOf (eventAt w i) ≡ t) (p .places)
-            ends-now = ending (g .planned) (g .ready .used .few) (g .last) (g .reached) (g .from) (g .order) e soon u
+            ends-now = ending (g .planned) (g .ready .used .few) (g .last) (g .reached) (g .from) e soon u
 
             to-now : (b : Bool) → has ended i ≡ b → (b || has (p .places) i) ≡ true → (i < d .count) × (endOf (eventAt w i) ≤ t)
             to-now true f y = let z = g .over i .0 f in (z .0, omega (arith, same-end i, z .1, next-later))
@@ -285,7 +282,7 @@ module _ {d : Head} {w : List (List ℕ)} {to : ℕ} {agenda old : List ℕ} {no
             from-now y = go (ltb clock (endOf (eventAt w i))) refl
               where
                 go : (b : Bool) → ltb clock (endOf (eventAt w i)) ≡ b → (has ended i || has (p .places) i) ≡ true
-                go true f = ap (λ z. has ended i || z) (ends-now i .1 (y .0, omega (arith, y .1, no-end (g .planned) (g .ready .used .few) (g .last) (g .reached) (g .from) (g .order) e i (y .0) (ltb-true clock (endOf (eventAt w i)) f) (omega (arith, y .1))))) ∙ or-true (has ended i)
+                go true f = ap (λ z. has ended i || z) (ends-now i .1 (y .0, omega (arith, y .1, no-end (g .planned) (g .ready .used .few) (g .last) (g .reached) (g .from) e i (y .0) (ltb-true clock (endOf (eventAt w i)) f) (omega (arith, y .1))))) ∙ or-true (has ended i)
                 go false f = rw (g .over i .1 (y .0, omega (arith, same-end i, ltb-false clock (endOf (eventAt w i)) f)))
 
         -- who claims nothing has nothing
@@ -310,7 +307,7 @@ module _ {d : Head} {w : List (List ℕ)} {to : ℕ} {agenda old : List ℕ} {no
           size = g .size;
           from = omega (arith, next-later, g .from);
           order = soon;
-          reached = reach-next (g .planned) (g .ready .used .few) (g .last) (g .reached) (g .from) (g .order) e soon u v;
+          reached = reach-next (g .planned) (g .ready .used .few) (g .last) (g .reached) (g .from) e soon u v;
           masks = masks-trans (g .masks) (x .masks);
           holders = x .holders;
           before = before-next;

@@ -78,7 +78,7 @@ module _ {clock to n : ℕ} {w : List (List ℕ)} {a : List ℕ} (g : Agenda clo
   }
 
   -- the next moment: of the change at k
-  module _ {c k t : ℕ} (r : Reached a c k) (from : clock ≤ c) (upto : c ≤ to) (e : t ≡ getD a k 0 / secondWidth) where
+  module _ {c k t : ℕ} (r : Reached a c k) (from : clock ≤ c) (e : t ≡ getD a k 0 / secondWidth) where
     pub later : c < t
     later = omega (arith, r .coming k (omega arith) (r .inside))
 

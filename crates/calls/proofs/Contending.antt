@@ -1,4 +1,5 @@
--- Settling with one claimant more is settling without it, and then contending.
+-- Settling with one claimant more is settling without it, and then contending: whoever the claimant is, in whatever order claimants come, and also if it claims something already and
+-- now claims more.
 use mathlib.Core.Path.{_≡_, refl, sym, ap, _∙_}
 use mathlib.Core.Logic.{_↔_, _⊎_, inl, inr, ⊎-elim}
 use Prim.Native.Nat.{ℕ, zero, suc, _<_, _≤_}
@@ -10,7 +11,7 @@ use borrow.Author.Tests.{eqb-true, eqb-false, eq-eqb, ne-eqb}
 use Rattle.rules.specs.Records.{has, cut}
 use Rattle.rules.specs.Holding.{Rank, better}
 use Rattle.rules.proofs.Tests.{both, each-true}
-use Rattle.rules.proofs.Masks.{has-cut, not-has}
+use Rattle.rules.proofs.Masks.{has-cut}
 use Rattle.rules.proofs.Ranks.{better-self, better-trans, better-one}
 use Rattle.calls.specs.Settled.{Unbeaten, Settled, withClaim, Contends}
 
@@ -88,7 +89,7 @@ module _ {rank : ℕ → Rank} {n : ℕ} {claims kept : ℕ → ℕ} (s : Settle
           (λ b. both _ b (s .each i p k .0 e .1 j q (s .each j q k .0 f .0)))
           (better-one (rank i) (rank j) (λ g. z (d i j p q g)))
 
-  module _ {i m : ℕ} {new : ℕ → ℕ} (l : i < n) (distinct : (i j : ℕ) → i < n → j < n → rank i .id ≡ rank j .id → i ≡ j) (empty : claims i ≡ 0) (c : Contends rank n i m kept new) where
+  module _ {i m : ℕ} {new : ℕ → ℕ} (l : i < n) (distinct : (i j : ℕ) → i < n → j < n → rank i .id ≡ rank j .id → i ≡ j) (grows : (k : ℕ) → has (claims i) k ≡ true → has m k ≡ true) (c : Contends rank n i m kept new) where
     abbrev more : ℕ → ℕ
     more = withClaim i m claims
 
@@ -131,9 +132,10 @@ module _ {rank : ℕ → Rank} {n : ℕ} {claims kept : ℕ → ℕ} (s : Settle
       for-others = (
         λ e. let q = kept-on e in let z = s .each j b k .0 (q .0) in
             (rw (there j d) (z .0), λ o a h. ⊎-elim (λ y. rw y (q .1 (rw (y, here) at h))) (λ y. z .1 o a (rw (there o y) at h)) (same o i)),
-        λ q. on-kept (s .each j b k .1 (rw (there j d) at (q .0), λ o a h. q .1 o a (rw (there o (λ y. not-has (claims o) k (ap claims y ∙ empty) h)) h))) (λ h. q .1 i l (rw here h)),
+        λ q. on-kept (s .each j b k .1 (rw (there j d) at (q .0), λ o a h. ⊎-elim (λ y. rw y (q .1 i l (rw here (grows k (rw y at h))))) (λ y. q .1 o a (rw (there o y) h)) (same o i))) (λ h. q .1 i l (rw here h)),
       )
 
+    -- the law
     pub one-more : Settled rank n more new
     one-more = record { each = λ j b k. ⊎-elim (λ z. rw z (for-own k)) (λ z. for-others j k b z) (same j i) }
 

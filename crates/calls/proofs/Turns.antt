@@ -187,7 +187,7 @@ module _ {d : Head} {old : List (List ℕ)} {holding starting : ℕ} {now : List
       within = λ i e. c .within i (still low i e);
       masks = masks-trans (c .masks) (q .masks);
       holders = q .holders;
-      settled = settled-cong (λ i. go i (eqb i at) refl) (one-more (c .settled) start-below (c .can .distinct) nothing-yet contends);
+      settled = settled-cong (λ i. go i (eqb i at) refl) (one-more (c .settled) start-below (c .can .distinct) (λ k e. not-has _ k nothing-yet e) contends);
     }
       where
         go : (i : ℕ) (b : Bool) → eqb i at ≡ b → cond b (eventAt old at .event .controls) (claimsOf old (turned starting rest) i) ≡ claimsOf old (turned starting (next .rest)) i

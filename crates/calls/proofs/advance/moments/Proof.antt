@@ -51,14 +51,14 @@ take-requires : tie.Need-take-requires Inv-loop μ-loop
 take-requires c κs =
     let l = c .before .before .loop in
     let g = l .inv .1 in
-    rw (c .after-ends .ensures) (stops-ends (g .planned) (g .ready .used .few) (g .last) (g .reached) (g .from) (g .order) (l .inv .2) (c .before .loop-test .taken))
+    rw (c .after-ends .ensures) (stops-ends (g .planned) (g .ready .used .few) (g .last) (g .reached) (g .from) (l .inv .2) (c .before .loop-test .taken))
 
 take-requires-2 : tie.Need-take-requires-2 Inv-loop μ-loop
 take-requires-2 c κs =
     let first = c .before in
     let l = turn first .before .loop in
     let g = l .inv .1 in
-    rw (c .after-starts .ensures) (stops-starts (g .planned) (g .ready .used .few) (g .last) (g .reached) (g .from) (g .order) (l .inv .2) (turn first .loop-test .taken) (taken first))
+    rw (c .after-starts .ensures) (stops-starts (g .planned) (g .ready .used .few) (g .last) (g .reached) (g .from) (l .inv .2) (turn first .loop-test .taken) (taken first))
 
 moment-requires : tie.Need-moment-requires Inv-loop μ-loop
 moment-requires c κs =
