@@ -93,8 +93,8 @@ cancel-spec =
     returns
     (λ c. omega (arith, there c))
     (λ c. omega (arith, there c))
-    (λ c κs. search needs)
-    (λ c κs. search needs)
+    (search needs)
+    (search needs)
     (λ c. omega (arith, there (else c)))
     (λ c. omega (arith, there (else c)))
     returns-2

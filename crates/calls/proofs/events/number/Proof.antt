@@ -119,16 +119,16 @@ number-spec =
     tie.close
     (tie.spec
     returns
-    (λ c. search needs)
-    (λ c. search needs)
-    (λ c. search needs)
+    (search needs)
+    (search needs)
+    (search needs)
     returns-2
-    (λ c κs. search needs)
+    (search needs)
     returns-3
     (λ c. omega (arith, there c))
     (λ c. omega (arith, there c))
-    (λ c κs. search needs)
-    (λ c κs. search needs)
+    (search needs)
+    (search needs)
     returns-4
     returns-5
     is-late-requires

@@ -34,4 +34,4 @@ returns-4 c =
     worse (a .control) (a .number) (a .p) (a .best) (test .is-in .result) (test .is-in .ensures) (carried .if1 .left) (found .if2 .left) (c .if3 .left)
 
 pub better-default-spec : {M : Type 1} → statement M
-better-default-spec = tie.close (tie.spec (λ c κs. search needs) returns returns-2 returns-3 returns-4)
+better-default-spec = tie.close (tie.spec (search needs) returns returns-2 returns-3 returns-4)
