@@ -28,17 +28,17 @@ marks : {d : Head} {w : List (List ℕ)} {i : ℕ} {p : Place} → Ready d w →
 unfolding does checks cancelChecks
 marks {d} {w} {i} {p} r f b h is x e m q =
     let l = inside r f b .0 in
-    let old = found r f in
+    let old = found r f b in
     let same = slot-at w (d .count) (within r) (p .at) l ∙ sym is in
     let over = put-over w (d .count) (within r) (p .at) x l (sound-of r .ids) (e ∙ ap stopped (sym same)) in
-    rw (over, f .held b .1, ← q, ← same) (rw (old, b) at (sym (does-it r (cancel i) (rw (old, b)))))
+    rw (over, f .held b .1, ← q, ← same) (rw old at (sym (does-it r (cancel i) (rw old))))
 
 returns : tie.Need-returns
 unfolding checks cancelChecks
 returns c =
     let place = c .before .before in
     let start = place .before .before in
-    refuses (start .pre) (cancel (idNumber (start .args .id))) 11 refl refl (rw (found (start .pre) (place .place-of .ensures), not-true (place .place-of .result .held) (c .if1 .taken)))
+    refuses (start .pre) (cancel (idNumber (start .args .id))) 11 refl refl (rw (found (start .pre) (place .place-of .ensures) (not-true _ (c .if1 .taken))))
 
 -- the place that was found, and where the function begins
 abbrev placed : (c : tie.Else1) → tie.After-place-of

@@ -32,10 +32,7 @@ delivered s e old = record { state = receive s e old; value = received old; byte
 taken-in : {d : Head} {w : List (List ℕ)} {p : Place} (e : Event) → Ready d w → Found (slotState d w .entries) (idOf e) p → firstOf (checks (slotState d w) (deliver e)) ≡ 0
     → (b : Bool) → p .held ≡ b → accepted (delivered (slotState d w) e (cond b (some (getD (slotState d w .entries) (p .at) noEntry)) none)) ≡ call (scheduleOf d w) (deliver e)
 unfolding does
-taken-in e r f z b q = rw (found r f, q) at (sym (does-it r (deliver e) z))
-
-not-held : {d : Head} {w : List (List ℕ)} {i : ℕ} {p : Place} → Ready d w → Found (slotState d w .entries) i p → p .held ≡ false → find i (slotState d w .entries) ≡ none
-not-held r f q = rw q at (found r f)
+taken-in e r f z b q = rw (found r f q) at (sym (does-it r (deliver e) z))
 
 -- the place that was found, and where the function begins
 abbrev placed : (c : tie.After-number) → tie.After-place-of
@@ -62,7 +59,7 @@ returns-2 c = record { used = start (c .before .before) .pre .used; outcome = ac
 
 -- what is not held is taken in at its place, and there is room
 free : (c : tie.Else2) → let a = start (c .before .before) .args in find (idOf (a .e)) (slotState (a .d) (a .slots .now) .entries) ≡ none
-free c = let number = c .before .before in not-held (start number .pre) (placed number .place-of .ensures) (c .if2 .left)
+free c = let number = c .before .before in found (start number .pre) (placed number .place-of .ensures) (c .if2 .left)
 
 fits : (c : tie.Else2) → let a = start (c .before .before) .args in CanOpen (placed (c .before .before) .place-of .result .at) (a .d .count) (a .slots .now)
 fits c =
