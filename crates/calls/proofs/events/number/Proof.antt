@@ -60,37 +60,32 @@ there : (c : tie.Then4) → let a = start (c .before .before .before) .args in (
 there c = let pre = start (c .before .before .before) .pre in inside (pre .ready) (pre .found) (c .if4 .taken)
 
 -- an event that is held already, compared
-abbrev held : (c : tie.After-equals) → tie.Then4
-held c = c .before .before .before
-
-compared : (c : tie.After-equals) → let a = start (held c .before .before .before) .args in
+compared : (c : tie.After-equals) → let held = c .before .before .before in let a = start (held .before .before .before) .args in
     firstOf (checks (slotState (a .t1) (a .slots .now)) (deliver (a .e))) ≡ cond (not (c .equals .result)) 8 0
 compared c =
-    let begun = start (held c .before .before .before) in
+    let held = c .before .before .before in
+    let begun = start (held .before .before .before) in
     let a = begun .args in
-    past (held c .before) true (held c .if4 .taken)
-    ∙ rw (slot-at (a .slots .now) (a .t1 .count) (within (begun .pre .ready)) (a .p .at) (there (held c) .0), ← c .before .entry-of .ensures, sym (c .equals .ensures))
+    past (held .before) true (held .if4 .taken)
+    ∙ rw (slot-at (a .slots .now) (a .t1 .count) (within (begun .pre .ready)) (a .p .at) (there held .0), ← c .before .entry-of .ensures, sym (c .equals .ensures))
 
 returns-6 : tie.Need-returns-6
 returns-6 c =
     let new = c .before .before in
     sym (past (new .before) false (new .if4 .left) ∙ rw (sym (c .before .is-late .ensures) ∙ c .if6 .taken))
 
--- an event that is not held, and not late
-abbrev new : (c : tie.Else6) → tie.Else4
-new c = c .before .before
-
--- past 9 there is room or not
-soon : (c : tie.Else6) → let a = start (new c .before .before .before) .args in
+-- an event that is not held, and not late: there is room or not
+soon : (c : tie.Else6) → let new = c .before .before in let a = start (new .before .before .before) .args in
     firstOf (checks (slotState (a .t1) (a .slots .now)) (deliver (a .e))) ≡ cond (leb mostEvents (a .t1 .count)) 10 0
 soon c =
-    let begun = start (new c .before .before .before) in
-    past (new c .before) false (new c .if4 .left)
-    ∙ rw (sym (c .before .is-late .ensures) ∙ c .if6 .left, count-of (begun .pre .ready))
+    let new = c .before .before in
+    past (new .before) false (new .if4 .left)
+    ∙ rw (sym (c .before .is-late .ensures) ∙ c .if6 .left, count-of (start (new .before .before .before) .pre .ready))
 
 returns-8 : tie.Need-returns-8
 returns-8 c =
-    let begun = start (new (c .before) .before .before .before) in
+    let new = c .before .before .before in
+    let begun = start (new .before .before .before) in
     let room : begun .args .t1 .count < mostEvents = omega (arith, c .if7 .left, begun .pre .ready .used .few) in
     sym (soon (c .before) ∙ rw (lt-leb mostEvents (begun .args .t1 .count) room))
 
