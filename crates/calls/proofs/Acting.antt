@@ -1,6 +1,6 @@
 -- What a call on slots gives: the number of its own checks, or what it does with what the slots say.
 use mathlib.Core.Path.{_≡_, sym, ap, _∙_}
-use mathlib.Core.Bool.{true, false, cond}
+use mathlib.Core.Bool.{Bool, true, false, cond}
 use mathlib.Core.List.{List, []}
 use mathlib.Core.Option.{none, some}
 use Prim.Native.Nat.{ℕ, _<_, _≤_}
@@ -46,8 +46,9 @@ module _ {d : Head} {w : List (List ℕ)} (r : Ready d w) where
       omega (arith, rw f at left, insert-length entryId (entry (d .clock) v) (slotState d w .entries), count-of r)
 
   -- what is held under an id, by its place
-  pub found : {i : ℕ} {p : Place} → Found (slotState d w .entries) i p → find i (slotState d w .entries) ≡ cond (p .held) (some (getD (slotState d w .entries) (p .at) noEntry)) none
-  found {i} {p} f = find-at i (slotState d w .entries) (p .at) (p .held) (sound-of r .ids) f
+  pub found : {i : ℕ} {p : Place} {b : Bool} → Found (slotState d w .entries) i p → p .held ≡ b
+      → find i (slotState d w .entries) ≡ cond b (some (getD (slotState d w .entries) (p .at) noEntry)) none
+  found {i} {p} f q = rw q at (find-at i (slotState d w .entries) (p .at) (p .held) (sound-of r .ids) f)
 
   pub inside : {i : ℕ} {p : Place} → Found (slotState d w .entries) i p → p .held ≡ true → (p .at < d .count) × (d .count ≤ mostEvents)
   inside f h = (omega (arith, f .held h .0, count-of r), r .used .few)

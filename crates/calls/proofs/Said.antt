@@ -1,11 +1,12 @@
 -- The text of a line: what a frame's call gives, and how many rows there are in it at the most.
 use mathlib.Core.Path.{_≡_, refl, sym, ap, ap₂, _∙_}
 use Prim.Native.Nat.{ℕ, zero, suc, _+_, _*_, _<_, _≤_}
-use mathlib.Core.Bool.{Bool, true, false, cond, not, _&&_}
+use mathlib.Core.Bool.{true, cond, not, _&&_}
 use mathlib.Core.List.{List, [], _∷_, _++_}
 use mathlib.Core.Option.{Option, none, some}
 use native.Mathlib.Omega.{arith}
 use borrow.Author.Tests.{not-false, eq-eqb, le-leb}
+use borrow.Table.Steps.{cases}
 use lib.Dec.{leb, eqb}
 use lib.ListN.{length, take, getD}
 use lib.Seq.{getD-take}
@@ -19,7 +20,7 @@ use Rattle.rules.specs.Records.{idOf, has, view, idNumber, mostRows}
 use Rattle.rules.specs.Bytes.{read, rowSize, rowsSize}
 use Rattle.rules.specs.Sound.{sound}
 use Rattle.rules.specs.Refusals.{find}
-use Rattle.rules.specs.Calls.{program, event, cancellation, question, holder, Value, Ranked, Call, bare, entryId, addProgram, deliver, cancel, setClock, ask, list, cancelCode, received, bestDefault, defaultFor, holderIn, answerFor, counted, numberOf, valueOf, does, refusal, accepts, accepted, refused, Outcome, call}
+use Rattle.rules.specs.Calls.{program, event, cancellation, question, Value, Ranked, Call, bare, addProgram, deliver, cancel, setClock, ask, list, cancelCode, received, bestDefault, defaultFor, holderIn, answerFor, counted, numberOf, valueOf, does, refusal, accepts, Outcome, call}
 use Rattle.rules.specs.declared.Line.the-variants.{Good, Bad}
 use Rattle.rules.specs.Frames.{frameCall}
 use Rattle.rules.specs.Printed.{refusedText, threeText, codeText, rowsText, askText, frameText, room, tellFrame}
@@ -101,11 +102,7 @@ module _ {s : Schedule} {r : Acted} {w : List (List ℕ)} {rows : List ℕ} wher
 -- the count of a call that was accepted, on a schedule that is sound then, or of none
 from-done : (s : Schedule) (c : Call) → (sound s ≡ true → counted (does (view s) c .value) ≤ mostRows) → counted (call s c .value) ≤ mostRows
 unfolding call refusal
-from-done s c h = by (accepts s c) refl
-  where
-    by : (t : Bool) → accepts s c ≡ t → counted (cond t (accepted (does (view s) c)) (refused s c) .value) ≤ mostRows
-    by true e = h (not-false (sound s) (first-not 2 (not (sound s)) _ refl e .0))
-    by false e = omega arith
+from-done s c h = cases (accepts s c) (λ e. rw e (h (not-false (sound s) (first-not 2 (not (sound s)) _ refl e .0)))) (λ e. rw e (omega arith))
 
 none-counted : (o : Option Entry) → counted (received o) ≤ mostRows
 none-counted none = omega arith
@@ -113,11 +110,7 @@ none-counted (some h) = omega arith
 
 cancel-counted : (o : Option Entry) → counted (cancelCode o) ≤ mostRows
 cancel-counted none = omega arith
-cancel-counted (some h) = by (h .cancelled)
-  where
-    by : (t : Bool) → counted (cancelCode (some (record { event = h .event; begins = h .begins; held = h .held; cancelled = t }))) ≤ mostRows
-    by true = omega arith
-    by false = omega arith
+cancel-counted (some h) = cases (h .cancelled) (λ e. rw e (omega arith)) (λ e. rw e (omega arith))
 
 default-counted : (q : Option Ranked) → counted (defaultFor q) ≤ mostRows
 default-counted none = omega arith
@@ -126,11 +119,7 @@ default-counted (some q) = omega arith
 holder-counted : (c : ℕ) (hs : List Entry) (v : Value) → counted v ≤ mostRows → counted (holderIn c hs v) ≤ mostRows
 unfolding holderIn
 holder-counted c [] v h = h
-holder-counted c (x ∷ hs) v h = by (has (x .held) c) (holder-counted c hs v h)
-  where
-    by : (t : Bool) → counted (holderIn c hs v) ≤ mostRows → counted (cond t (holder (entryId x)) (holderIn c hs v)) ≤ mostRows
-    by true g = omega arith
-    by false g = g
+holder-counted c (x ∷ hs) v h = cases (has (x .held) c) (λ e. rw e (omega arith)) (λ e. rw e (holder-counted c hs v h))
 
 -- no call counts more than there can be rows: held events are fewer
 pub call-counted : (s : Schedule) (c : Call) → counted (call s c .value) ≤ mostRows

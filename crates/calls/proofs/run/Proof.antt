@@ -19,4 +19,4 @@ unfolding runOutcome
 returns-2 c = rw (sym (c .before .is-sound .ensures) ∙ c .if1 .left)
 
 pub run-spec : {M : Type 1} → statement M
-run-spec = tie.close (tie.spec (λ c κs. search needs) run-requires (λ c. search needs) returns returns-2)
+run-spec = tie.close (tie.spec (search needs) run-requires (search needs) returns returns-2)

@@ -33,15 +33,15 @@ pub act-on-spec : {M : Type 1} → statement M
 act-on-spec =
     tie.close
     (tie.spec
-    (λ c. search needs)
+    (search needs)
     (λ c κs. search needs)
-    (λ c. search needs)
+    (search needs)
     (λ c κs. search needs)
-    (λ c. search needs)
+    (search needs)
     (λ c κs. search needs)
-    (λ c. search needs)
-    (λ c κs. search needs)
-    (λ c. search needs)
+    (search needs)
+    (search needs)
+    (search needs)
     (λ c κs. search needs)
     returns
     returns-2

@@ -94,7 +94,7 @@ run-spec =
     Inv-loop
     μ-loop
     (λ c κs. record { good = c .before .before .before .pre; size = refl })
-    (λ c κs. search needs)
+    (search needs)
     loop-holds
     (λ c κs. c .before .loop .inv .0 .within)
     (λ c. let l = c .before .before .before .loop in omega (arith, running-size (l .inv .0), l .inv .0 .fits))

@@ -50,13 +50,13 @@ add-program-spec =
     tie.close
     (tie.spec
     returns
-    (λ c. search needs)
-    (λ c. search needs)
+    (search needs)
+    (search needs)
     returns-2
-    (λ c κs. search needs)
-    (λ c. search needs)
-    (λ c. search needs)
+    (search needs)
+    (search needs)
+    (search needs)
     returns-3
-    (λ c. search needs)
-    (λ c. search needs)
+    (search needs)
+    (search needs)
     returns-4)

@@ -29,4 +29,4 @@ returns-2 c =
     ∙ sym (does-it (start .pre) (ask (a .control)) (rw (le-ltb lastControl (a .control) (control .if1 .left))))
 
 pub ask-spec : {M : Type 1} → statement M
-ask-spec = tie.close (tie.spec returns (λ c κs. search needs) (λ c κs. search needs) returns-2)
+ask-spec = tie.close (tie.spec returns (search needs) (search needs) returns-2)
