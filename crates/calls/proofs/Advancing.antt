@@ -41,9 +41,9 @@ use Rattle.calls.proofs.Slots.{in-slots, within, view-of, sound-of}
 use Rattle.calls.proofs.Puts.{no-row, rows-then}
 use Rattle.calls.proofs.Undropped.{settledAt, stateIn, quiet-to, moment-then, sound-moment}
 use Rattle.calls.proofs.Sets.{place-below, some-holders}
-use Rattle.calls.proofs.Contests.{same-event, masks-trans}
+use Rattle.calls.proofs.Turns.{same-event, masks-trans}
 use Rattle.calls.proofs.Moments.{us-at, event-in, in-event, us-are}
-use Rattle.calls.proofs.AgendaLaws.{Reached, begin, later, no-start, no-end, ending, starting, reach-next}
+use Rattle.calls.proofs.Changes.{Reached, begin, later, no-start, no-end, ending, starting, reach-next}
 
 -- Pairs of a list, place by place.
 

@@ -5,15 +5,11 @@ pub mod Reached  -- what stands at a place of a list
 pub mod Slots  -- slots in use and the schedule that they are
 pub mod Laid  -- slots in use as entries by value
 pub mod Keys  -- one key of a rank decides, or leaves it to the next
-pub mod Controls  -- one control cut from a mask, and looked for at places
 pub mod Contending  -- settling with one claimant more is contending
-pub mod Sets  -- the lowest place of a set, and its places in order
-pub mod Contests  -- an event contends with those that hold something, one after the other
-pub mod Turns  -- walks over a set of places, one event after the other
-pub mod Phases  -- what an event does at a moment, its claim and its code
-pub mod Moments  -- a moment on slots is the moment of the definitions
-pub mod Planning  -- an agenda made and read
-pub mod AgendaLaws  -- what an agenda says of the moments
+pub mod Sets  -- sets of places and masks of controls: one bit, the lowest, their order
+pub mod Turns  -- an event contends, and walks over a set of places
+pub mod Moments  -- what an event does at a moment, and a moment on slots
+pub mod Changes  -- an agenda made and read, and what it says of the moments
 pub mod Advancing  -- the loop over moments: what was passed and what is left
 pub mod Finishing  -- the slots that last come to the front, one by one
 pub mod Answers  -- the number that a call gives on a schedule by value

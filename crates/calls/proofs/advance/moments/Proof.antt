@@ -6,7 +6,7 @@ use lib.Bits.{bitOr}
 use lib.ListN.{getD}
 use Rattle.calls.specs.Sets.{setWidth}
 use Rattle.calls.specs.Agenda.{TakenTo, secondWidth}
-use Rattle.calls.proofs.AgendaLaws.{stops-ends, stops-starts}
+use Rattle.calls.proofs.Changes.{stops-ends, stops-starts}
 use Rattle.calls.proofs.Advancing.{Going, start, next-later, ahead, step, stop}
 use Rattle.calls.proofs.advance.moments.Statement.{statement}
 use Rattle.calls.proofs.advance.moments.Tie as tie

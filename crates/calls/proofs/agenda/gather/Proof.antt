@@ -8,7 +8,7 @@ use borrow.Author.Needs.{needs}
 use borrow.Author.Tests.{leb-true}
 use lib.Dec.{leb, ltb}
 use Rattle.rules.proofs.Tests.{both, each-true}
-use Rattle.calls.proofs.Planning.{Plans, Changes, WithStart, passed, planned, no-changes, event-more, agenda-of}
+use Rattle.calls.proofs.Changes.{Plans, Changes, WithStart, passed, planned, no-changes, event-more, agenda-of}
 use Rattle.calls.proofs.agenda.gather.Statement.{statement}
 use Rattle.calls.proofs.agenda.gather.Tie as tie
 

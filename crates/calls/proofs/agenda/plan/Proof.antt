@@ -1,7 +1,7 @@
 -- The later ones from place j on have moved up.
 use native.Mathlib.Omega.{arith}
 use borrow.Author.Needs.{needs}
-use Rattle.calls.proofs.Planning.{Moved, moved-none, moved-more, moved-all}
+use Rattle.calls.proofs.Changes.{Moved, moved-none, moved-more, moved-all}
 use Rattle.calls.proofs.agenda.plan.Statement.{statement}
 use Rattle.calls.proofs.agenda.plan.Tie as tie
 

@@ -7,7 +7,7 @@ use lib.ListN.{getD}
 use lib.Pow.{shl-exact}
 use Rattle.calls.specs.Sets.{setWidth}
 use Rattle.calls.specs.Agenda.{agendaSize}
-use Rattle.calls.proofs.Planning.{Taking, taken-none, taken-more, taken-all}
+use Rattle.calls.proofs.Changes.{Taking, taken-none, taken-more, taken-all}
 use Rattle.calls.proofs.agenda.take.Statement.{statement}
 use Rattle.calls.proofs.agenda.take.Tie as tie
 

@@ -2,8 +2,7 @@
 use Prim.Native.Nat.{_<_}
 use native.Mathlib.Omega.{arith}
 use lib.Count.{trailingZeros}
-use Rattle.calls.proofs.Controls.{has-lowest, has-within}
-use Rattle.calls.proofs.Sets.{lowest}
+use Rattle.calls.proofs.Sets.{has-lowest, has-within, lowest}
 use Rattle.calls.proofs.bits.lowest.Statement.{statement}
 use Rattle.calls.proofs.bits.lowest.Tie as tie
 

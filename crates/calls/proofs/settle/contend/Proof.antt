@@ -7,7 +7,7 @@ use lib.Bits.{bitAnd}
 use Rattle.rules.specs.Records.{cut, mostEvents}
 use Rattle.rules.specs.Holding.{better}
 use Rattle.calls.specs.Sets.{eventAt, maskAt, rankIn}
-use Rattle.calls.proofs.Contests.{same-event, same-rank, Contesting, none-met, met-below, met-mask, passes, yields, takes, contended}
+use Rattle.calls.proofs.Turns.{same-event, same-rank, Contesting, none-met, met-below, met-mask, passes, yields, takes, contended}
 use Rattle.calls.proofs.settle.contend.Statement.{statement}
 use Rattle.calls.proofs.settle.contend.Tie as tie
 

@@ -5,8 +5,7 @@ use native.Mathlib.Nat.{one-mul}
 use lib.Bits.{and-le-l}
 use lib.Pow.{shl-exact}
 use Rattle.rules.specs.Records.{cut}
-use Rattle.calls.proofs.Controls.{has-within}
-use Rattle.calls.proofs.Sets.{Cutting, none-cut, one-cut, all-cut}
+use Rattle.calls.proofs.Sets.{has-within, Cutting, none-cut, one-cut, all-cut}
 use Rattle.calls.proofs.settle.without.Statement.{statement}
 use Rattle.calls.proofs.settle.without.Tie as tie
 
