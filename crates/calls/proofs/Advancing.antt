@@ -1,30 +1,31 @@
--- The loop over moments: what was passed and what is left make up the whole, and the slots say where the events stand.
-use mathlib.Core.Path.{_≡_, refl, sym, ap, _∙_, subst}
-use mathlib.Core.Logic.{_⊎_, inl, inr}
-use Prim.Native.Nat.{ℕ, zero, suc, _+_, _-_, _*_, _/_, _<_, _≤_}
+-- The loop over moments. Nothing is dropped on the way: what has ended claims nothing and gives no row. What was passed and what is left make up the whole, and the slots say where the events stand.
+use mathlib.Core.Path.{_≡_, refl, sym, ap, _∙_, fun-ext, subst}
+use Prim.Native.Nat.{ℕ, suc, _+_, _-_, _≤_, zero, _*_, _/_, _<_}
 use mathlib.Core.Bool.{Bool, true, false, not, _||_, or-true}
-use mathlib.Core.List.{List, [], _∷_, _++_, map, map-map, append-assoc, append-nil}
+use mathlib.Core.List.{List, [], map, _∷_, _++_, map-map, append-assoc, append-nil}
 use native.Mathlib.Omega.{arith, by-contra}
+use borrow.Author.Tests.{ltb-false, lt-ltb, le-ltb, ltb-true}
+use mathlib.Core.Logic.{_⊎_, inl, inr}
 use native.Mathlib.Nat.{lt-of-not-le}
 use lib.Bits.{bitOr}
 use lib.Dec.{ltb}
 use lib.ListN.{length, getD, length-append}
-use borrow.Author.Tests.{lt-ltb, le-ltb, ltb-true, ltb-false}
 use Rattle.rules.specs.declared.Entry.{Entry}
 use Rattle.rules.specs.declared.Program.{Program}
-use Rattle.rules.specs.Lists.{keep, All, Pairwise}
-use Rattle.rules.specs.Records.{has, join, idOf, noEntry, lastClock, view, pad, mostRows}
-use Rattle.rules.specs.Holding.{holdingAt, withHolding, endOf}
-use Rattle.rules.specs.Rows.{Row, rowsAt}
-use Rattle.rules.specs.Moments.{lasts, advance, passed}
+use Rattle.rules.specs.Lists.{keep, In, All, Pairwise}
+use Rattle.rules.specs.Records.{State, cut, lastClock, has, join, idOf, noEntry, view, pad, mostRows}
+use Rattle.rules.specs.Holding.{claim, taken, heldAt, Holding, holdingAt, withHolding, endOf}
+use Rattle.rules.specs.Rows.{codeAt, rowsFrom, rowsAt, Row}
+use Rattle.rules.specs.Moments.{lasts, entriesFrom, second, advance, passed}
 use Rattle.rules.specs.Bytes.{bytes, rowsSize}
-use Rattle.rules.proofs.ListLaws.{keep-all, keep-cong, keep-map, in-keep, map-cong}
+use Rattle.rules.proofs.ListLaws.{keep-in, keep-map, keep-keep, keep-cong, map-same, keep-all, in-keep, map-cong}
+use Rattle.rules.proofs.Claims.{claim-ended, code-ended, taken-keep, rows-eq, gives-none, claim-early, claim-cancelled, nothing-held}
+use Rattle.rules.proofs.SoundState.{Sound}
+use Rattle.rules.proofs.SoundKept.{sound-advance}
+use Rattle.rules.proofs.Jump.{onward, advance-add, Idle, idle}
 use Rattle.rules.proofs.Tests.{both}
 use Rattle.rules.proofs.Masks.{has-join, has-none, not-has}
-use Rattle.rules.proofs.SoundState.{Sound}
 use Rattle.rules.proofs.Bound.{few-rows}
-use Rattle.rules.proofs.Claims.{claim-early, claim-ended, claim-cancelled, nothing-held}
-use Rattle.rules.proofs.Jump.{onward, Idle}
 use Rattle.calls.specs.declared.held.Head.{Head}
 use Rattle.calls.specs.declared.agenda.Taken.{Taken}
 use Rattle.calls.specs.declared.clock.Due.{Due}
@@ -39,11 +40,100 @@ use Rattle.calls.specs.Finished.{Finished}
 use Rattle.calls.proofs.Reached.{at-in}
 use Rattle.calls.proofs.Slots.{in-slots, within, view-of, sound-of}
 use Rattle.calls.proofs.Puts.{no-row, rows-then}
-use Rattle.calls.proofs.Undropped.{settledAt, stateIn, quiet-to, moment-then, sound-moment}
 use Rattle.calls.proofs.Sets.{place-below, some-holders}
 use Rattle.calls.proofs.Turns.{same-event, masks-trans}
 use Rattle.calls.proofs.Moments.{us-at, event-in, in-event, us-are}
 use Rattle.calls.proofs.Changes.{Reached, begin, later, no-start, no-end, ending, starting, reach-next}
+
+-- Moments over a list from which nothing is dropped.
+
+-- every entry after moment t, ended ones too
+abbrev pub settledAt : List Program → ℕ → List Entry → List Entry
+settledAt ps t us = map (λ h. withHolding h (holdingAt ps t us h)) us
+
+module _ (ps : List Program) (c : ℕ) (us : List Entry) where
+  abbrev t : ℕ
+  t = suc c
+
+  abbrev remaining : List Entry
+  remaining = keep (lasts c) us
+
+  held-same : holdingAt ps t remaining ≡ holdingAt ps t us
+  unfolding holdingAt heldAt
+  held-same = fun-ext (λ h. ap (λ m. record { held = cut (claim t h) m })
+      (ap (λ l. taken ps t l h) (sym (map-same (λ x. x) remaining (λ x m. refl)))
+      ∙ taken-keep ps t h (λ x. x) (lasts c) us (λ x m e. claim-ended t x (omega (arith, ltb-false c (endOf x) e)))
+      ∙ ap (λ l. taken ps t l h) (map-same (λ x. x) us (λ x m. refl))))
+
+  rows-same : rowsAt ps t remaining ≡ rowsAt ps t us
+  unfolding rowsAt
+  rows-same = ap (λ is. rowsFrom t is remaining) held-same ∙ rows-eq t is remaining us (λ kind e. keep-keep (λ h. kind (codeAt t h (is h))) (lasts c) us
+      (λ x m d. gives-none t is kind x e (code-ended t x (is x) (omega (arith, ltb-false c (endOf x) d)))))
+    where
+      is : Entry → Holding
+      is = holdingAt ps t us
+
+  entries-same : entriesFrom t (holdingAt ps t remaining) remaining ≡ keep (lasts t) (settledAt ps t us)
+  unfolding entriesFrom
+  entries-same =
+      ap (λ is. map (λ h. withHolding h (is h)) (keep (lasts t) remaining)) held-same
+      ∙ ap (map step) (keep-keep (lasts t) (lasts c) us (λ x m e. le-ltb t (endOf x) (omega (arith, ltb-false c (endOf x) e))))
+      ∙ sym (keep-map (lasts t) step us)
+    where
+      step : Entry → Entry
+      step h = withHolding h (holdingAt ps t us h)
+
+-- a second, of a state whose entries are those that last
+pub second-undropped : (ps : List Program) (c : ℕ) (us : List Entry)
+    → second (record { clock = c; programs = ps; entries = keep (lasts c) us })
+    ≡ record { state = record { clock = suc c; programs = ps; entries = keep (lasts (suc c)) (settledAt ps (suc c) us) }; rows = rowsAt ps (suc c) us }
+unfolding second
+second-undropped ps c us = λ i. record { state = record { clock = suc c; programs = ps; entries = entries-same ps c us i }; rows = rows-same ps c us i }
+
+-- the state at a clock
+abbrev pub stateIn : List Program → List Entry → ℕ → State
+stateIn ps us c = record { clock = c; programs = ps; entries = keep (lasts c) us }
+
+-- nothing ends between the clock and the moment after n seconds
+kept-later : (us : List Entry) (c n : ℕ) → All (Idle c n) (keep (lasts c) us) → keep (lasts c) us ≡ keep (lasts (c + n)) us
+kept-later us c n i = keep-cong (lasts c) (lasts (c + n)) us (λ h m. go h m (lasts c h) refl)
+  where
+    go : (h : Entry) → In h us → (b : Bool) → lasts c h ≡ b → b ≡ lasts (c + n) h
+    go h m true e = sym (lt-ltb (c + n) (endOf h) (i h (keep-in (lasts c) h us m e) .ends))
+    go h m false e = sym (le-ltb (c + n) (endOf h) (omega (arith, ltb-false c (endOf h) e)))
+
+module _ (ps : List Program) (us : List Entry) (c n : ℕ) (v : Sound (stateIn ps us c)) (l : c + n ≤ lastClock) (i : All (Idle c n) (keep (lasts c) us)) where
+  idle-state : advance n (stateIn ps us c) ≡ record { state = stateIn ps us (c + n); rows = [] }
+  idle-state = idle n (stateIn ps us c) v l i ∙ ap (λ hs. record { state = record { clock = c + n; programs = ps; entries = hs }; rows = [] }) (kept-later us c n i)
+
+  -- n seconds in which nothing happens
+  pub quiet-to : (to : ℕ) → to ≡ c + n → advance (to - c) (stateIn ps us c) ≡ record { state = stateIn ps us to; rows = [] }
+  quiet-to to e =
+      let d : to - c ≡ n = omega arith in
+      ap (λ k. advance k (stateIn ps us c)) d ∙ idle-state ∙ ap (λ k. record { state = stateIn ps us k; rows = [] }) (sym e)
+
+  -- and then the next moment, and the rest
+  pub moment-then : (u to : ℕ) → u ≡ suc (c + n) → u ≤ to
+      → advance (to - c) (stateIn ps us c)
+      ≡ onward (record { state = stateIn ps (settledAt ps u us) u; rows = rowsAt ps u us }) (advance (to - u) (stateIn ps (settledAt ps u us) u))
+  unfolding advance
+  moment-then u to e h =
+      let rest = to - u in
+      let d : to - c ≡ n + suc rest = omega arith in
+      ap (λ k. advance k (stateIn ps us c)) d
+      ∙ advance-add n (suc rest) (stateIn ps us c)
+      ∙ ap (λ m. onward m (advance (suc rest) (m .state))) idle-state
+      ∙ ap (λ o. onward o (advance rest (o .state))) (second-undropped ps (c + n) us)
+      ∙ ap (λ k. onward (record { state = stateIn ps (settledAt ps k us) k; rows = rowsAt ps k us }) (advance rest (stateIn ps (settledAt ps k us) k))) (sym e)
+
+  pub sound-moment : (u : ℕ) → u ≡ suc (c + n) → u ≤ lastClock → Sound (stateIn ps (settledAt ps u us) u)
+  unfolding advance
+  sound-moment u e h =
+      let z : u - u ≡ 0 = omega arith in
+      let w : Sound (advance (u - c) (stateIn ps us c) .state) = sound-advance (u - c) (stateIn ps us c) v (omega arith) in
+      subst (λ m. Sound (m .state)) (moment-then u u e (omega arith) ∙ ap (λ k. onward (record { state = stateIn ps (settledAt ps u us) u; rows = rowsAt ps u us }) (advance k (stateIn ps (settledAt ps u us) u))) z) w
+
+-- The loop.
 
 -- Pairs of a list, place by place.
 
