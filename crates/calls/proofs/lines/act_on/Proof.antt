@@ -4,19 +4,6 @@ use Rattle.calls.proofs.Said.{on-event, on-cancel, on-clock, on-program
 use Rattle.calls.proofs.lines.act_on.Statement.{statement}
 use Rattle.calls.proofs.lines.act_on.Tie as tie
 
-returns : tie.Need-returns
-returns c =
-    let read = c .before .before .before in
-    rw (read .f .given .1) (on-event _ (read .before .before .pre .long) (c .deliver .ensures))
-
-returns-2 : tie.Need-returns-2
-returns-2 c =
-    let read = c .before .before .before in
-    rw (read .f2 .given .1) (on-cancel _ (read .before .before .pre .long) (c .cancel .ensures))
-
-returns-3 : tie.Need-returns-3
-returns-3 c = rw (c .before .before .before .before .f3 .given .1) (on-clock _ (c .pass .ensures))
-
 returns-4 : tie.Need-returns-4
 returns-4 c =
     let read = c .before .before in
@@ -43,8 +30,8 @@ act-on-spec =
     (search needs)
     (search needs)
     (λ c κs. search needs)
-    returns
-    returns-2
-    returns-3
+    (λ c. let read = c .before .before .before in rw (read .f .given .1) (on-event _ (read .before .before .pre .long) (c .deliver .ensures)))
+    (λ c. let read = c .before .before .before in rw (read .f2 .given .1) (on-cancel _ (read .before .before .pre .long) (c .cancel .ensures)))
+    (λ c. rw (c .before .before .before .before .f3 .given .1) (on-clock _ (c .pass .ensures)))
     returns-4
     returns-5)
