@@ -10,9 +10,9 @@ use Rattle.rules.specs.declared.Frame.{Frame}
 use Rattle.rules.specs.declared.Frame.the-variants as frame
 use Rattle.rules.specs.declared.Line.{Line}
 use Rattle.rules.specs.declared.Line.the-variants.{Good, Bad}
-use Rattle.rules.specs.Calls.{Governor, byEvent, byProgram, byNone, Value, nothing, code, count, governor, counted, call}
+use Rattle.rules.specs.Calls.{byEvent, byProgram, byNone, Value, nothing, code, count, governor, counted, call}
 use Rattle.rules.specs.Frames.{lineOf, frameCall}
-use Rattle.rules.specs.Printed.{governorText, refusedText, codeText, askText, frameText, room, tellFrame, tellLine, tell}
+use Rattle.rules.specs.Printed.{refusedText, codeText, askText, frameText, room, tellFrame, tellLine, tell}
 use Rattle.text.specs.Texts.{mostText}
 use Rattle.text.proofs.Printing.{decimal-length, three-length, rows-length}
 use Rattle.calls.proofs.Said.{call-counted}
@@ -26,16 +26,13 @@ code-length t i (code k) = cases (eqb k 0) (λ e. rw e (omega arith)) (λ e. rw 
 code-length t i (count n) = omega arith
 code-length t i (governor g) = omega arith
 
-governor-length : (c : ℕ) (g : Governor) → length (governorText c g) ≤ mostText
-governor-length c (byEvent i) = simp length-append (omega (arith, decimal-length 20 c, decimal-length 20 i))
-governor-length c (byProgram p) = simp length-append (omega (arith, decimal-length 20 c, decimal-length 20 p))
-governor-length c byNone = simp length-append (omega (arith, decimal-length 20 c))
-
 ask-length : (c : ℕ) (v : Value) → length (askText c v) ≤ mostText
 ask-length c nothing = omega arith
 ask-length c (code k) = omega arith
 ask-length c (count n) = omega arith
-ask-length c (governor g) = governor-length c g
+ask-length c (governor (byEvent i)) = simp length-append (omega (arith, decimal-length 20 c, decimal-length 20 i))
+ask-length c (governor (byProgram p)) = simp length-append (omega (arith, decimal-length 20 c, decimal-length 20 p))
+ask-length c (governor byNone) = simp length-append (omega (arith, decimal-length 20 c))
 
 frame-length : (s : Schedule) (f : Frame) → length (frameText (s .clock) f (call s (frameCall f room))) ≤ mostText
 frame-length s (frame.Event v) = code-length (s .clock) _ (call s (frameCall (frame.Event v) room) .value)

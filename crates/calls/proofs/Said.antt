@@ -11,19 +11,17 @@ use lib.Dec.{leb, eqb}
 use lib.ListN.{length, take, getD}
 use lib.Seq.{getD-take}
 use Rattle.rules.specs.declared.Entry.{Entry}
-use Rattle.rules.specs.declared.Event.{Event}
-use Rattle.rules.specs.declared.Id.{Id}
 use Rattle.rules.specs.declared.Schedule.{Schedule}
 use Rattle.rules.specs.declared.Frame.{Frame}
 use Rattle.rules.specs.declared.Frame.the-variants as frame
-use Rattle.rules.specs.Records.{idOf, has, view, idNumber, mostRows}
+use Rattle.rules.specs.Records.{idOf, has, view, mostRows}
 use Rattle.rules.specs.Bytes.{read, rowSize, rowsSize}
 use Rattle.rules.specs.Sound.{sound}
 use Rattle.rules.specs.Refusals.{find}
-use Rattle.rules.specs.Calls.{program, event, cancellation, question, Value, Ranked, Call, bare, addProgram, deliver, cancel, setClock, ask, list, cancelCode, received, bestDefault, defaultFor, holderIn, answerFor, counted, numberOf, valueOf, does, refusal, accepts, Outcome, call}
+use Rattle.rules.specs.Calls.{Bare, program, event, cancellation, question, Value, Ranked, Call, bare, addProgram, deliver, cancel, setClock, ask, list, cancelCode, received, bestDefault, defaultFor, holderIn, answerFor, counted, numberOf, valueOf, does, refusal, accepts, Outcome, call}
 use Rattle.rules.specs.declared.Line.the-variants.{Good, Bad}
 use Rattle.rules.specs.Frames.{frameCall}
-use Rattle.rules.specs.Printed.{refusedText, threeText, codeText, rowsText, askText, frameText, room, tellFrame}
+use Rattle.rules.specs.Printed.{refusedText, threeText, rowsText, frameText, room, tellFrame}
 use Rattle.rules.proofs.Tests.{first-not}
 use Rattle.rules.proofs.SoundState.{sound-view}
 use Rattle.rules.proofs.Bound.{few-rows}
@@ -61,10 +59,17 @@ module _ (a b : List ℕ) where
 
 -- A frame's call.
 
+-- the text of a call that is lent nothing hangs on its value alone
+value-text : (clock : ℕ) (f : Frame) {c : Bare} → frameCall f room ≡ bare c → (o p : Outcome) → o .value ≡ p .value → frameText clock f o ≡ frameText clock f p
+value-text clock (frame.Event e) is o p q = rw q
+value-text clock (frame.Cancel i) is o p q = rw q
+value-text clock (frame.Clock t) is o p q = let z : _≡_ {A = ℕ} 0 1 = cc in absurd (omega arith)
+value-text clock (frame.Program n i d) is o p q = refl
+value-text clock (frame.Ask c) is o p q = rw q
+
 module _ {s : Schedule} {r : Acted} {w : List (List ℕ)} {rows : List ℕ} where
-  -- a call whose text hangs on its value alone
-  on : (f : Frame) (T : ℕ → Value → List ℕ) → ((clock : ℕ) (o : Outcome) → frameText clock f o ≡ T clock (o .value)) → length rows ≡ rowsSize → Acts r w [] (call s (frameCall f room)) → ActsOn s f r w rows
-  on f T is long a =
+  pub on-bare : {f : Frame} {c : Bare} → frameCall f room ≡ bare c → length rows ≡ rowsSize → Acts r w [] (call s (frameCall f room)) → ActsOn s f r w rows
+  on-bare {f} is long a =
       let v = ap (λ (o : Outcome). o .value) (a .outcome) in
       record {
         used = a .used;
@@ -72,20 +77,8 @@ module _ {s : Schedule} {r : Acted} {w : List (List ℕ)} {rows : List ℕ} wher
         number = ap (λ (o : Outcome). o .number) (a .outcome);
         value = v;
         state = ap (λ (o : Outcome). o .state) (a .outcome);
-        text = λ clock o p q. is clock o ∙ ap (T clock) (p ∙ v) ∙ sym (is clock (call s (frameCall f room)));
+        text = λ clock o p q. value-text clock f is o (call s (frameCall f room)) (p ∙ v);
       }
-
-  pub on-event : (e : Event) → length rows ≡ rowsSize → Acts r w [] (call s (deliver e)) → ActsOn s (frame.Event e) r w rows
-  on-event e = on (frame.Event e) (λ clock. codeText clock (idOf e)) (λ clock o. refl)
-
-  pub on-cancel : (i : Id) → length rows ≡ rowsSize → Acts r w [] (call s (cancel (idNumber i))) → ActsOn s (frame.Cancel i) r w rows
-  on-cancel i = on (frame.Cancel i) (λ clock. codeText clock (idNumber i)) (λ clock o. refl)
-
-  pub on-program : (n p d : ℕ) → length rows ≡ rowsSize → Acts r w [] (call s (addProgram n p d)) → ActsOn s (frame.Program n p d) r w rows
-  on-program n p d = on (frame.Program n p d) (λ clock v. []) (λ clock o. refl)
-
-  pub on-ask : (c : ℕ) → length rows ≡ rowsSize → Acts r w [] (call s (ask c)) → ActsOn s (frame.Ask c) r w rows
-  on-ask c = on (frame.Ask c) (λ clock. askText c) (λ clock o. refl)
 
   pub on-clock : (t : ℕ) → Reads s t r w rows → ActsOn s (frame.Clock t) r w rows
   on-clock t a = record {

@@ -4,9 +4,6 @@ use borrow.Author.Needs.{needs}
 use Rattle.calls.proofs.lines.likely_end.Statement.{statement}
 use Rattle.calls.proofs.lines.likely_end.Tie as tie
 
-returns : tie.Need-returns
-returns c = record { behind = search needs; within = search needs; feed = inr (search needs) }
-
 pub likely-end-spec : {M : Type 1} → statement M
 likely-end-spec =
     tie.close
@@ -18,6 +15,6 @@ likely-end-spec =
     (search needs)
     (search needs)
     (search needs)
-    returns
+    (λ c. record { behind = search needs; within = search needs; feed = inr (search needs) })
     (λ c. search (inl, needs))
     (λ c. search (inl, needs)))
