@@ -37,8 +37,7 @@ use Rattle.calls.specs.Moment.{Distinct, OneHolderIn, Before, Ahead, Pas
 use Rattle.calls.specs.Written.{Written}
 use Rattle.calls.specs.Advanced.{Passes, Advances}
 use Rattle.calls.specs.Finished.{Finished}
-use Rattle.calls.proofs.Reached.{at-in}
-use Rattle.calls.proofs.Slots.{in-slots, within, view-of, sound-of}
+use Rattle.calls.proofs.Slots.{at-in, in-slots, within, view-of, sound-of}
 use Rattle.calls.proofs.Puts.{no-row, rows-then}
 use Rattle.calls.proofs.Sets.{place-below, some-holders}
 use Rattle.calls.proofs.Turns.{same-event, masks-trans}

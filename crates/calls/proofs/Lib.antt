@@ -1,7 +1,6 @@
 -- What belongs to no one function.
 pub mod Puts  -- bytes and rows written one after the other
-pub mod Reached  -- what stands at a place of a list
-pub mod Slots  -- slots in use and the schedule that they are
+pub mod Slots  -- what stands at a place of a list, and slots in use with the schedule that they are
 pub mod Laid  -- slots in use as entries by value
 pub mod Contending  -- settling with one claimant more is contending
 pub mod Sets  -- sets of places and masks of controls: one bit, the lowest, their order

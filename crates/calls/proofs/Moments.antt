@@ -31,8 +31,7 @@ use Rattle.calls.specs.Slots.{slotState}
 use Rattle.calls.specs.Sets.{eventAt, maskAt, rankIn, placesTo, Holders, MasksOnly, setRows}
 use Rattle.calls.specs.Settled.{Settled}
 use Rattle.calls.specs.Written.{Written}
-use Rattle.calls.proofs.Reached.{at-in, in-at}
-use Rattle.calls.proofs.Slots.{in-slots, slot-at}
+use Rattle.calls.proofs.Slots.{at-in, in-at, in-slots, slot-at}
 use Rattle.calls.proofs.Puts.{rows-then}
 use Rattle.calls.proofs.Sets.{place-below, by-place, keep-places}
 use Rattle.calls.proofs.Contending.{sole, settled-on}

@@ -20,8 +20,7 @@ use Rattle.rules.proofs.SoundState.{ById}
 use Rattle.calls.specs.Slots.{entryOf}
 use Rattle.calls.specs.Found.{PlaceOf, widened}
 use Rattle.calls.proofs.Places.{behind}
-use Rattle.calls.proofs.Reached.{at-in}
-use Rattle.calls.proofs.Slots.{in-slots, slot-at}
+use Rattle.calls.proofs.Slots.{at-in, in-slots, slot-at}
 
 -- a place by the events in the slots
 pub placed-in : (w : List (List ℕ)) (n i at : ℕ) → n ≤ length w → at ≤ n

@@ -23,7 +23,7 @@ use Rattle.rules.proofs.Nobody.{has-ext}
 use Rattle.calls.specs.declared.bits.Next.{Next}
 use Rattle.calls.specs.Slots.{entryOf}
 use Rattle.calls.specs.Sets.{placesTo, maskAt, SetOf, Lowest, Holders, Masked, Counted}
-use Rattle.calls.proofs.Reached.{at-map}
+use Rattle.calls.proofs.Slots.{at-map}
 use Rattle.calls.proofs.Contending.{same}
 
 -- One bit.

@@ -1,16 +1,36 @@
--- What stands in the slots, and the schedule that they are.
-use mathlib.Core.Path.{_≡_, ap, _∙_, subst}
-use Prim.Native.Nat.{ℕ, _%_, _<_, _≤_}
-use mathlib.Core.List.{List, [], map}
+-- What stands at a place of a list; and what stands in the slots, and the schedule that they are.
+use mathlib.Core.Path.{_≡_, refl, sym, ap, _∙_, subst}
+use mathlib.Core.Logic.{inl, inr}
+use Prim.Native.Nat.{ℕ, zero, suc, _<_, _%_, _≤_}
+use mathlib.Core.List.{List, [], _∷_, map}
 use native.Mathlib.Omega.{arith}
 use lib.ListN.{length, getD, take, set, length-map, List·getD-append}
 use lib.Seq.{getD-take, length-take-le, getD-set-same, getD-set-other}
+use Rattle.rules.specs.Lists.{In}
 use Rattle.rules.specs.Records.{noEntry, view}
+use Rattle.rules.specs.Holding.{withHolding}
 use Rattle.rules.proofs.SoundState.{Sound, view-pad, sound-view}
 use Rattle.calls.specs.declared.held.Head.{Head}
-use Rattle.rules.specs.Holding.{withHolding}
 use Rattle.calls.specs.Slots.{idPlace, programPlace, controlsPlace, createdPlace, startPlace, durationPlace, randomizeStartPlace, randomizeDurationPlace, startDrawPlace, durationDrawPlace, beginsPlace, heldPlace, cancelledPlace, slotSize, values32, entryOf, slotState, scheduleOf, Ready}
-use Rattle.calls.proofs.Reached.{at-map}
+
+-- what stands at a place is in the list
+pub at-in : {A : Type 0} (d : A) (xs : List A) (k : ℕ) → k < length xs → In (getD xs k d) xs
+at-in d [] k l = absurd (omega arith)
+at-in d (x ∷ xs) zero l = inl refl
+at-in d (x ∷ xs) (suc k) l = inr (at-in d xs k (omega arith))
+
+-- and what is in it stands at a place
+pub in-at : {A : Type 0} (d : A) (xs : List A) (x : A) → In x xs → (k : ℕ) × (k < length xs) × (getD xs k d ≡ x)
+in-at d (y ∷ ys) x (inl e) = (0, omega arith, sym e)
+in-at d (y ∷ ys) x (inr m) = let r = in-at d ys x m in (suc (r .0), omega (arith, r .1), r .2)
+
+-- of a list mapped
+pub at-map : {A B : Type 0} (f : A → B) (d : A) (e : B) (xs : List A) (k : ℕ) → k < length xs → getD (map f xs) k e ≡ f (getD xs k d)
+at-map f d e [] k l = absurd (omega arith)
+at-map f d e (x ∷ xs) zero l = refl
+at-map f d e (x ∷ xs) (suc k) l = at-map f d e xs k (omega arith)
+
+-- Slots.
 
 module _ (w : List (List ℕ)) (n : ℕ) (fits : n ≤ length w) where
   pub in-slots : length (map entryOf (take n w)) ≡ n
