@@ -10,14 +10,6 @@ use Rattle.calls.proofs.Acting.{refuses, does-it}
 use Rattle.calls.proofs.programs.add_program.Statement.{statement}
 use Rattle.calls.proofs.programs.add_program.Tie as tie
 
-returns : tie.Need-returns
-unfolding checks programChecks
-returns c w r = refuses r _ 3 refl refl (rw (lt-ltb lastProgram _ (c .if1 .taken)))
-
-returns-2 : tie.Need-returns-2
-unfolding checks programChecks
-returns-2 c w r = refuses r _ 4 refl refl (rw (le-ltb lastProgram _ (c .before .before .if1 .left), c .if2 .taken))
-
 returns-3 : tie.Need-returns-3
 unfolding checks programChecks
 returns-3 c w r =
@@ -35,13 +27,14 @@ returns-4 c w r =
     record { used = r .used; outcome = sym (does-it r _ (rw (le-ltb lastProgram _ (free .before .before .if1 .left), free .if2 .left, tested))) }
 
 pub add-program-spec : {M : Type 1} → statement M
+unfolding checks programChecks
 add-program-spec =
     tie.close
     (tie.spec
-    returns
+    (λ c w r. refuses r _ 3 refl refl (rw (lt-ltb lastProgram _ (c .if1 .taken))))
     (search needs)
     (search needs)
-    returns-2
+    (λ c w r. refuses r _ 4 refl refl (rw (le-ltb lastProgram _ (c .before .before .if1 .left), c .if2 .taken)))
     (search needs)
     (search needs)
     (search needs)
