@@ -9,9 +9,6 @@ use Rattle.calls.proofs.Returned.{breaks, tested, ready, returned}
 use Rattle.calls.proofs.add_program.Statement.{statement}
 use Rattle.calls.proofs.add_program.Tie as tie
 
-returns : tie.Need-returns
-returns c = breaks _ (c .before .before .is-sound .ensures) (not-true _ (c .before .if1 .taken)) (c .refused .ensures)
-
 -- no slot was looked at, so what the call promises of any slots it promises of these
 acts : (c : tie.After-add-program) → let head = c .before in let w = head .before .take-apart .last .1 .0 in
     let else = head .before .before .before in let a = else .before .before .args in
@@ -30,7 +27,7 @@ add-program-spec =
     (tie.spec
     (search needs)
     (search needs)
-    returns
+    (λ c. breaks _ (c .before .before .is-sound .ensures) (not-true _ (c .before .if1 .taken)) (c .refused .ensures))
     (λ c κs. search (tested, needs))
     (search needs)
     (search needs)

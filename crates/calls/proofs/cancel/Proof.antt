@@ -5,9 +5,6 @@ use Rattle.calls.proofs.Returned.{breaks, tested, ready, returned}
 use Rattle.calls.proofs.cancel.Statement.{statement}
 use Rattle.calls.proofs.cancel.Tie as tie
 
-returns : tie.Need-returns
-returns c = breaks _ (c .before .before .is-sound .ensures) (not-true _ (c .before .if1 .taken)) (c .refused .ensures)
-
 returns-2 : tie.Need-returns-2
 returns-2 c =
     let called = c .before .before in
@@ -20,7 +17,7 @@ cancel-spec =
     (tie.spec
     (search needs)
     (search needs)
-    returns
+    (λ c. breaks _ (c .before .before .is-sound .ensures) (not-true _ (c .before .if1 .taken)) (c .refused .ensures))
     (λ c κs. search (tested, needs))
     (search needs)
     (λ c κs. search (ready, tested))

@@ -9,7 +9,7 @@ use borrow.Author.Tests.{not-true, not-false}
 use lib.ListN.{getD, set, length-set}
 use Rattle.rules.specs.declared.Answer.the-variants.{Code}
 use Rattle.rules.specs.declared.Entry.{Entry}
-use Rattle.rules.specs.Records.{mostEvents, idNumber}
+use Rattle.rules.specs.Records.{mostEvents}
 use Rattle.rules.specs.Refusals.{cancelChecks}
 use Rattle.rules.specs.Calls.{cancel, code, does, checks, call}
 use Rattle.calls.specs.declared.held.Head.{Head}
@@ -48,7 +48,7 @@ unfolding checks cancelChecks
 returns c =
     let place = c .before .before in
     let start = place .before .before in
-    refuses (start .pre) (cancel (idNumber (start .args .id))) 11 refl refl (rw (found (start .pre) (place .place-of .ensures) (not-true _ (c .if1 .taken))))
+    refuses (start .pre) _ 11 refl refl (rw (found (start .pre) (place .place-of .ensures) (not-true _ (c .if1 .taken))))
 
 -- the place that was found, and where the function begins
 abbrev placed : (c : tie.Else1) → tie.After-place-of

@@ -35,9 +35,8 @@ start c = placed c .before .before
 
 returns : tie.Need-returns
 returns c =
-    let begun = start (c .before) in
     let n = c .before .number in
-    refuses (begun .pre) (deliver (begun .args .e)) (n .result) (ne-eqb (n .result) 0 (c .if1 .taken)) refl (n .ensures)
+    refuses (start (c .before) .pre) _ (n .result) (ne-eqb (n .result) 0 (c .if1 .taken)) refl (n .ensures)
 
 -- past every number, what the call does with what is held
 acts : (c : tie.Else1) (b : Bool) → let a = start (c .before) .args in let p = placed (c .before) .place-of .result in

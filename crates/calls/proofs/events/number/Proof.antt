@@ -25,14 +25,6 @@ abbrev rest : State → Event → Option Entry → ℕ
 rest s e o =
     firstOf (8 if differs o e ∷ 9 if (isNone o && late (s .clock) e) ∷ 10 if (isNone o && leb mostEvents (length (s .entries))) ∷ [])
 
-returns : tie.Need-returns
-unfolding checks eventChecks
-returns c = sym (rw (lt-ltb lastProgram _ (c .if1 .taken)))
-
-returns-2 : tie.Need-returns-2
-unfolding checks eventChecks
-returns-2 c = sym (rw (le-ltb lastProgram _ (c .before .before .before .before .if1 .left), c .if2 .taken))
-
 -- past 6: the program has a number, and where the function begins
 abbrev numbered : (c : tie.Else2) → tie.Else1
 numbered c = c .before .before .before .before
@@ -90,14 +82,15 @@ returns-8 c =
     sym (soon (c .before) ∙ rw (lt-leb mostEvents (begun .args .t1 .count) room))
 
 pub number-spec : {M : Type 1} → statement M
+unfolding checks eventChecks
 number-spec =
     tie.close
     (tie.spec
-    returns
+    (λ c. sym (rw (lt-ltb lastProgram _ (c .if1 .taken))))
     (search needs)
     (search needs)
     (search needs)
-    returns-2
+    (λ c. sym (rw (le-ltb lastProgram _ (c .before .before .before .before .if1 .left), c .if2 .taken)))
     (search needs)
     returns-3
     (λ c. omega (arith, there c))
