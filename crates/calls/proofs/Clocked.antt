@@ -26,7 +26,7 @@ use Rattle.calls.specs.declared.advance.Passed.{Passed}
 use Rattle.calls.specs.Slots.{scheduleOf, InUse, Ready}
 use Rattle.calls.specs.Answered.{outcomeIn}
 use Rattle.calls.specs.Advanced.{Advanced, Advances, Reads}
-use Rattle.calls.proofs.Answers.{given}
+use Rattle.calls.proofs.Acting.{given}
 
 module _ (s : Schedule) (e : sound s ≡ true) (t : ℕ) where
   pub out-of-range : (ltb t (s .clock) || ltb lastClock t) ≡ true → (b : List ℕ) → record { number = 12; value = nothing; state = s; bytes = b; records = [] } ≡ call s (setClock t b)

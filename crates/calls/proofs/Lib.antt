@@ -1,17 +1,14 @@
 -- What belongs to no one function.
 pub mod Puts  -- bytes and rows written one after the other
-pub mod Slots  -- what stands at a place of a list, and slots in use with the schedule that they are
-pub mod Laid  -- slots in use as entries by value
+pub mod Slots  -- what stands at a place of a list; slots in use, and the schedule and the entries that they are
 pub mod Contending  -- settling with one claimant more is contending
 pub mod Sets  -- sets of places and masks of controls: one bit, the lowest, their order
 pub mod Turns  -- an event contends, and walks over a set of places
 pub mod Moments  -- what an event does at a moment, and a moment on slots
 pub mod Changes  -- an agenda made and read, and what it says of the moments
 pub mod Advancing  -- the loop over moments, with nothing dropped on the way
-pub mod Answers  -- the number that a call gives on a schedule by value
-pub mod Places  -- the place of an id tells what is held under it
-pub mod Placing  -- slots with an event put in or marked at its place
-pub mod Acting  -- what a call on slots gives
+pub mod Placing  -- the place of an id, and slots with an event put in or marked there
+pub mod Acting  -- the number that a call gives by value, and what a call on slots gives
 pub mod Returned  -- a call by value is the call on its slots
 pub mod Clocked  -- a clock call gives 12, 13, or what the moments leave
 pub mod Asking  -- a control's first holder, and its best default

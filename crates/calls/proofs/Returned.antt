@@ -16,7 +16,7 @@ use Rattle.calls.specs.Slots.{headOf, scheduleOf, TakenApart, Ready}
 use Rattle.calls.specs.Answered.{outcomeOf, refusedWith, told, ByValue, Acts}
 use Rattle.calls.specs.declared.advance.Passed.{Passed}
 use Rattle.calls.specs.Advanced.{Advanced, Advances}
-use Rattle.calls.proofs.Answers.{broken}
+use Rattle.calls.proofs.Acting.{broken}
 
 -- a schedule that breaks a rule is refused with 2
 pub breaks : {s : Schedule} {t : Bool} {r : Answered} (c : Call) → t ≡ sound s → t ≡ false → r ≡ refusedWith 2 s → outcomeOf r (lentBytes c) (lentList c) ≡ call s c

@@ -8,7 +8,7 @@ use lib.ListN.{length, take, set, length-set}
 use Rattle.rules.specs.Records.{mostEvents}
 use Rattle.rules.proofs.SoundState.{rules}
 use Rattle.calls.specs.Slots.{entryOf, InUse}
-use Rattle.calls.proofs.Laid.{slot-more, apart-of}
+use Rattle.calls.proofs.Slots.{slot-more, apart-of}
 use Rattle.calls.proofs.held.take_apart.Statement.{statement}
 use Rattle.calls.proofs.held.take_apart.Tie as tie
 
