@@ -1,10 +1,11 @@
 // The core of the clock call, on slots that are known to be sound. It looks at what moves: from one moment to the next at which an event begins or ends.
 //
-// slots   [[u64; 13]; 48]  each held event; its mask is what it holds after the last moment   `settle::hold` writes the masks, `finish` moves slots
-// agenda  [u64; 97]        the starts and ends up to the reading, each one number, ascending; then end marks   `agenda::gather` writes it, once
-// rows    [u8; 1632]       the rows so far   `clock::report` writes them
-// holding u64              place i has bit i if its mask is not 0   `settle::hold` keeps it beside the masks
-// ending, starting, ended  u64 too: who ends or begins at this moment (`agenda::take`), and who has ended since the clock
+// slots             each held event; its mask is what it holds after the last moment (`settle::hold` writes the masks, `finish` drops slots)
+// agenda            the starts and ends up to the reading, each one number, ascending, then end marks (`agenda::gather` writes it, once)
+// rows              the rows so far, as bytes (`clock::report` writes them)
+// holding           a set of places, one bit each: whose mask is not 0 (`settle::hold` keeps it beside the masks)
+// ending, starting  sets: who ends, who begins at the moment (`agenda::take`)
+// ended             a set: who has ended since the clock (`moments`)
 ghost use mathlib.Core.Path.{_≡_};
 ghost use Prim.Native.Nat.{_≤_};
 ghost use lib.ListN.{length};
