@@ -1,18 +1,20 @@
--- What a call on slots gives: the number of its own checks, or what it does with what the slots say.
+-- The number that a call gives on a schedule by value; and what a call on slots gives.
 use mathlib.Core.Path.{_≡_, sym, ap, _∙_}
-use mathlib.Core.Bool.{true, false, cond}
+use mathlib.Core.Bool.{true, false, Bool, cond}
+use Prim.Native.Nat.{ℕ, _<_, _≤_}
+use lib.Dec.{eqb}
 use mathlib.Core.List.{List, []}
 use mathlib.Core.Option.{none, some}
-use Prim.Native.Nat.{ℕ, _<_, _≤_}
 use native.Mathlib.Omega.{arith}
 use borrow.Author.Tests.{eq-eqb}
-use lib.Dec.{eqb}
 use lib.ListN.{getD}
+use Rattle.rules.specs.declared.Schedule.{Schedule}
+use Rattle.rules.specs.Records.{view, mostEvents, idOf, noEntry}
+use Rattle.rules.specs.Sound.{sound}
+use Rattle.rules.specs.Refusals.{firstOf, find}
+use Rattle.rules.specs.Calls.{Call, nothing, checks, refusal, lentBytes, lentList, call, deliver, entry, entryId, does, accepted}
 use Rattle.rules.specs.declared.Event.{Event}
 use Rattle.rules.specs.declared.Answer.the-variants.{Refused}
-use Rattle.rules.specs.Records.{mostEvents, idOf, noEntry}
-use Rattle.rules.specs.Refusals.{firstOf, find}
-use Rattle.rules.specs.Calls.{Call, deliver, nothing, entry, entryId, does, checks, accepted, lentBytes, lentList, call}
 use Rattle.rules.proofs.ListLaws.{insert-length}
 use Rattle.rules.proofs.SoundKept.{call-pad, sound-does}
 use Rattle.calls.specs.declared.held.Head.{Head}
@@ -20,9 +22,21 @@ use Rattle.calls.specs.declared.events.Place.{Place}
 use Rattle.calls.specs.Slots.{slotState, scheduleOf, Ready}
 use Rattle.calls.specs.Answered.{Acts}
 use Rattle.calls.specs.Found.{Found}
-use Rattle.calls.proofs.Answers.{given}
-use Rattle.calls.proofs.Places.{find-at}
+use Rattle.calls.proofs.Placing.{find-at}
 use Rattle.calls.proofs.Slots.{count-of, view-of, sound-of}
+
+module _ (s : Schedule) (e : sound s ≡ true) where
+  pub given : (c : Call) (n : ℕ) → eqb n 0 ≡ false → n ≡ firstOf (checks (view s) c)
+      → record { number = n; value = nothing; state = s; bytes = lentBytes c; records = lentList c } ≡ call s c
+  unfolding call refusal
+  given c n f q = rw (e, ← q, f)
+
+-- a schedule that breaks a rule is refused with 2 and comes back as it came
+pub broken : (s : Schedule) → sound s ≡ false → (c : Call) → record { number = 2; value = nothing; state = s; bytes = lentBytes c; records = lentList c } ≡ call s c
+unfolding call refusal
+broken s e c = rw e
+
+-- On slots.
 
 module _ {d : Head} {w : List (List ℕ)} (r : Ready d w) where
   -- a number that applies is given, and nothing changes
@@ -46,8 +60,9 @@ module _ {d : Head} {w : List (List ℕ)} (r : Ready d w) where
       omega (arith, rw f at left, insert-length entryId (entry (d .clock) v) (slotState d w .entries), count-of r)
 
   -- what is held under an id, by its place
-  pub found : {i : ℕ} {p : Place} → Found (slotState d w .entries) i p → find i (slotState d w .entries) ≡ cond (p .held) (some (getD (slotState d w .entries) (p .at) noEntry)) none
-  found {i} {p} f = find-at i (slotState d w .entries) (p .at) (p .held) (sound-of r .ids) f
+  pub found : {i : ℕ} {p : Place} {b : Bool} → Found (slotState d w .entries) i p → p .held ≡ b
+      → find i (slotState d w .entries) ≡ cond b (some (getD (slotState d w .entries) (p .at) noEntry)) none
+  found {i} {p} f q = rw q at (find-at i (slotState d w .entries) (p .at) (p .held) (sound-of r .ids) f)
 
   pub inside : {i : ℕ} {p : Place} → Found (slotState d w .entries) i p → p .held ≡ true → (p .at < d .count) × (d .count ≤ mostEvents)
   inside f h = (omega (arith, f .held h .0, count-of r), r .used .few)

@@ -1,241 +1,470 @@
--- The loop over moments: what was passed and what is left make up the whole, and the columns say where the entries stand.
-use mathlib.Core.Path.{_≡_, refl, sym, ap, _∙_, subst}
-use Prim.Native.Nat.{ℕ, suc, _+_, _-_, _<_, _≤_}
-use mathlib.Core.Bool.{true}
-use mathlib.Core.List.{List, [], _++_, map, append-assoc, append-nil}
-use native.Mathlib.Omega.{arith}
-use lib.ListN.{length, take, getD, length-append, length-map}
-use lib.Seq.{getD-take, ext-getD}
-use borrow.Author.Tests.{lt-ltb}
+-- The loop over moments. Nothing is dropped on the way: what has ended claims nothing and gives no row. What was passed and what is left make up the whole, and the slots say where the events stand.
+use mathlib.Core.Path.{_≡_, refl, sym, ap, _∙_, fun-ext, subst}
+use Prim.Native.Nat.{ℕ, suc, _+_, _-_, _≤_, zero, _*_, _/_, _<_}
+use mathlib.Core.Bool.{Bool, true, false, not, _||_, or-true}
+use mathlib.Core.List.{List, [], map, _∷_, _++_, map-map, append-assoc, append-nil}
+use native.Mathlib.Omega.{arith, by-contra}
+use borrow.Author.Tests.{ltb-false, lt-ltb, le-ltb, ltb-true}
+use mathlib.Core.Logic.{_⊎_, inl, inr}
+use native.Mathlib.Nat.{lt-of-not-le}
+use lib.Bits.{bitOr}
+use lib.Dec.{ltb}
+use lib.ListN.{length, getD, length-append}
 use Rattle.rules.specs.declared.Entry.{Entry}
 use Rattle.rules.specs.declared.Program.{Program}
-use Rattle.rules.specs.declared.Schedule.{Schedule}
-use Rattle.rules.specs.Lists.{keep, All, Pairwise}
-use Rattle.rules.specs.Records.{noEntry, lastClock, idOf, programAt, view, mostEvents, mostRows}
-use Rattle.rules.specs.Holding.{heldAt, withHolding, endOf}
-use Rattle.rules.specs.Rows.{Row, rowsAt}
-use Rattle.rules.specs.Moments.{lasts, advance, passed}
+use Rattle.rules.specs.Lists.{keep, In, All, Pairwise}
+use Rattle.rules.specs.Records.{State, cut, lastClock, has, join, idOf, noEntry, view, pad, mostRows}
+use Rattle.rules.specs.Holding.{claim, taken, heldAt, Holding, holdingAt, withHolding, endOf}
+use Rattle.rules.specs.Rows.{codeAt, rowsFrom, rowsAt, Row}
+use Rattle.rules.specs.Moments.{lasts, entriesFrom, second, advance, passed}
 use Rattle.rules.specs.Bytes.{bytes, rowsSize}
-use Rattle.rules.specs.Sound.{sound}
-use Rattle.rules.specs.Calls.{entryId}
-use Rattle.rules.proofs.ListLaws.{keep-all, asc-map}
-use Rattle.rules.proofs.SoundState.{Sound, ById, sound-view, rules, in-count}
+use Rattle.rules.proofs.ListLaws.{keep-in, keep-map, keep-keep, keep-cong, map-same, keep-all, in-keep, map-cong}
+use Rattle.rules.proofs.Claims.{claim-ended, code-ended, taken-keep, rows-eq, gives-none, claim-early, claim-cancelled, nothing-held}
+use Rattle.rules.proofs.SoundState.{Sound}
+use Rattle.rules.proofs.SoundKept.{sound-advance}
+use Rattle.rules.proofs.Jump.{onward, advance-add, Idle, idle}
+use Rattle.rules.proofs.Tests.{both}
+use Rattle.rules.proofs.Masks.{has-join, has-none, not-has}
 use Rattle.rules.proofs.Bound.{few-rows}
-use Rattle.rules.proofs.Jump.{onward, Idle}
 use Rattle.calls.specs.declared.held.Head.{Head}
-use Rattle.calls.specs.Slots.{entryOf, slotState, scheduleOf, Ready}
-use Rattle.calls.specs.Columns.{primaciesOf, createdOf, idsOf, Numbered, Uncancelled, MomentColumns, Claims, Codes, nextOf, momentRows, Written}
-use Rattle.calls.specs.Held.{Columns, columnsOf, Columned, Long}
-use Rattle.calls.specs.Settled.{claimants, settled}
-use Rattle.calls.specs.Live.{placesTo, masked}
-use Rattle.calls.specs.Advanced.{Passes}
-use Rattle.calls.proofs.Reached.{at-in, at-map}
-use Rattle.calls.proofs.Slots.{within, slot-at, count-of, sound-of, entry-at}
-use Rattle.calls.proofs.Columned.{primacies-long, created-long, ids-long}
+use Rattle.calls.specs.declared.agenda.Taken.{Taken}
+use Rattle.calls.specs.declared.clock.Due.{Due}
+use Rattle.calls.specs.declared.clock.Standing.{Standing}
+use Rattle.calls.specs.Slots.{slotState, scheduleOf, InUse, Ready}
+use Rattle.calls.specs.Sets.{eventAt, maskAt, placesTo, Numbered, SetOf, Holders, MasksOnly, setWidth}
+use Rattle.calls.specs.Agenda.{nothing, Agenda, TakenTo, secondWidth}
+use Rattle.calls.specs.Moment.{Distinct, OneHolderIn, Before, Ahead, Past}
+use Rattle.calls.specs.Written.{Written}
+use Rattle.calls.specs.Advanced.{Passes, Advances}
+use Rattle.calls.specs.Finished.{Finished}
+use Rattle.calls.proofs.Slots.{at-in, in-slots, within, view-of, sound-of}
 use Rattle.calls.proofs.Puts.{no-row, rows-then}
-use Rattle.calls.proofs.Undropped.{settledAt, stateIn, quiet-to, moment-then, sound-moment}
-use Rattle.calls.proofs.Asleep.{places-length, place-at}
-use Rattle.calls.proofs.Moment.{Now, front-is, is-end, is-begins, kept-are, codes-are, rows-are, now-next, next-after, next-idle}
+use Rattle.calls.proofs.Sets.{place-below, some-holders}
+use Rattle.calls.proofs.Turns.{same-event, masks-trans}
+use Rattle.calls.proofs.Moments.{us-at, event-in, in-event, us-are}
+use Rattle.calls.proofs.Changes.{Reached, begin, later, no-start, no-end, ending, starting, reach-next}
 
--- after the moments up to a clock
-pub record Going (s : Schedule) (to n : ℕ) (c : Columns) (old rows held : List ℕ) (clock at : ℕ) : Type 0 where
-  pub good : sound s ≡ true
+-- Moments over a list from which nothing is dropped.
+
+-- every entry after moment t, ended ones too
+abbrev pub settledAt : List Program → ℕ → List Entry → List Entry
+settledAt ps t us = map (λ h. withHolding h (holdingAt ps t us h)) us
+
+module _ (ps : List Program) (c : ℕ) (us : List Entry) where
+  abbrev t : ℕ
+  t = suc c
+
+  abbrev remaining : List Entry
+  remaining = keep (lasts c) us
+
+  held-same : holdingAt ps t remaining ≡ holdingAt ps t us
+  unfolding holdingAt heldAt
+  held-same = fun-ext (λ h. ap (λ m. record { held = cut (claim t h) m })
+      (ap (λ l. taken ps t l h) (sym (map-same (λ x. x) remaining (λ x m. refl)))
+      ∙ taken-keep ps t h (λ x. x) (lasts c) us (λ x m e. claim-ended t x (omega (arith, ltb-false c (endOf x) e)))
+      ∙ ap (λ l. taken ps t l h) (map-same (λ x. x) us (λ x m. refl))))
+
+  rows-same : rowsAt ps t remaining ≡ rowsAt ps t us
+  unfolding rowsAt
+  rows-same = ap (λ is. rowsFrom t is remaining) held-same ∙ rows-eq t is remaining us (λ kind e. keep-keep (λ h. kind (codeAt t h (is h))) (lasts c) us
+      (λ x m d. gives-none t is kind x e (code-ended t x (is x) (omega (arith, ltb-false c (endOf x) d)))))
+    where
+      is : Entry → Holding
+      is = holdingAt ps t us
+
+  entries-same : entriesFrom t (holdingAt ps t remaining) remaining ≡ keep (lasts t) (settledAt ps t us)
+  unfolding entriesFrom
+  entries-same =
+      ap (λ is. map (λ h. withHolding h (is h)) (keep (lasts t) remaining)) held-same
+      ∙ ap (map step) (keep-keep (lasts t) (lasts c) us (λ x m e. le-ltb t (endOf x) (omega (arith, ltb-false c (endOf x) e))))
+      ∙ sym (keep-map (lasts t) step us)
+    where
+      step : Entry → Entry
+      step h = withHolding h (holdingAt ps t us h)
+
+-- a second, of a state whose entries are those that last
+pub second-undropped : (ps : List Program) (c : ℕ) (us : List Entry)
+    → second (record { clock = c; programs = ps; entries = keep (lasts c) us })
+    ≡ record { state = record { clock = suc c; programs = ps; entries = keep (lasts (suc c)) (settledAt ps (suc c) us) }; rows = rowsAt ps (suc c) us }
+unfolding second
+second-undropped ps c us = λ i. record { state = record { clock = suc c; programs = ps; entries = entries-same ps c us i }; rows = rows-same ps c us i }
+
+-- the state at a clock
+abbrev pub stateIn : List Program → List Entry → ℕ → State
+stateIn ps us c = record { clock = c; programs = ps; entries = keep (lasts c) us }
+
+-- nothing ends between the clock and the moment after n seconds
+kept-later : (us : List Entry) (c n : ℕ) → All (Idle c n) (keep (lasts c) us) → keep (lasts c) us ≡ keep (lasts (c + n)) us
+kept-later us c n i = keep-cong (lasts c) (lasts (c + n)) us (λ h m. go h m (lasts c h) refl)
+  where
+    go : (h : Entry) → In h us → (b : Bool) → lasts c h ≡ b → b ≡ lasts (c + n) h
+    go h m true e = sym (lt-ltb (c + n) (endOf h) (i h (keep-in (lasts c) h us m e) .ends))
+    go h m false e = sym (le-ltb (c + n) (endOf h) (omega (arith, ltb-false c (endOf h) e)))
+
+module _ (ps : List Program) (us : List Entry) (c n : ℕ) (v : Sound (stateIn ps us c)) (l : c + n ≤ lastClock) (i : All (Idle c n) (keep (lasts c) us)) where
+  idle-state : advance n (stateIn ps us c) ≡ record { state = stateIn ps us (c + n); rows = [] }
+  idle-state = idle n (stateIn ps us c) v l i ∙ ap (λ hs. record { state = record { clock = c + n; programs = ps; entries = hs }; rows = [] }) (kept-later us c n i)
+
+  -- n seconds in which nothing happens
+  pub quiet-to : (to : ℕ) → to ≡ c + n → advance (to - c) (stateIn ps us c) ≡ record { state = stateIn ps us to; rows = [] }
+  quiet-to to e =
+      let d : to - c ≡ n = omega arith in
+      ap (λ k. advance k (stateIn ps us c)) d ∙ idle-state ∙ ap (λ k. record { state = stateIn ps us k; rows = [] }) (sym e)
+
+  -- and then the next moment, and the rest
+  pub moment-then : (u to : ℕ) → u ≡ suc (c + n) → u ≤ to
+      → advance (to - c) (stateIn ps us c)
+      ≡ onward (record { state = stateIn ps (settledAt ps u us) u; rows = rowsAt ps u us }) (advance (to - u) (stateIn ps (settledAt ps u us) u))
+  unfolding advance
+  moment-then u to e h =
+      let rest = to - u in
+      let d : to - c ≡ n + suc rest = omega arith in
+      ap (λ k. advance k (stateIn ps us c)) d
+      ∙ advance-add n (suc rest) (stateIn ps us c)
+      ∙ ap (λ m. onward m (advance (suc rest) (m .state))) idle-state
+      ∙ ap (λ o. onward o (advance rest (o .state))) (second-undropped ps (c + n) us)
+      ∙ ap (λ k. onward (record { state = stateIn ps (settledAt ps k us) k; rows = rowsAt ps k us }) (advance rest (stateIn ps (settledAt ps k us) k))) (sym e)
+
+  pub sound-moment : (u : ℕ) → u ≡ suc (c + n) → u ≤ lastClock → Sound (stateIn ps (settledAt ps u us) u)
+  unfolding advance
+  sound-moment u e h =
+      let z : u - u ≡ 0 = omega arith in
+      let w : Sound (advance (u - c) (stateIn ps us c) .state) = sound-advance (u - c) (stateIn ps us c) v (omega arith) in
+      subst (λ m. Sound (m .state)) (moment-then u u e (omega arith) ∙ ap (λ k. onward (record { state = stateIn ps (settledAt ps u us) u; rows = rowsAt ps u us }) (advance k (stateIn ps (settledAt ps u us) u))) z) w
+
+-- The loop.
+
+-- Pairs of a list, place by place.
+
+pub pairwise-at : {A : Type 0} (R : A → A → Type 0) (e : A) (xs : List A) → Pairwise R xs → (i j : ℕ) → i < j → j < length xs → R (getD xs i e) (getD xs j e)
+pairwise-at R e [] h i j l k = absurd (omega arith)
+pairwise-at R e (x ∷ xs) h i zero l k = absurd (omega arith)
+pairwise-at R e (x ∷ xs) h zero (suc j) l k = h .0 (getD xs j e) (at-in e xs j (omega arith))
+pairwise-at R e (x ∷ xs) h (suc i) (suc j) l k = pairwise-at R e xs (h .1) i j (omega arith) (omega arith)
+
+-- What sound slots say of places.
+
+module _ {d : Head} {w : List (List ℕ)} (r : Ready d w) where
+  -- of two places that are not the same one comes first
+  apart-at : {P : ℕ → ℕ → Type 0} → ((i j : ℕ) → i < j → j < d .count → P i j → ⊥) → ((i j : ℕ) → P i j → P j i) → (i j : ℕ) → i < d .count → j < d .count → P i j → i ≡ j
+  apart-at f g i j l m p = go (ltb i j) (ltb j i) refl refl
+    where
+      go : (a b : Bool) → ltb i j ≡ a → ltb j i ≡ b → i ≡ j
+      go true b x y = absurd (f i j (ltb-true i j x) m p)
+      go false true x y = absurd (f j i (ltb-true j i y) l (g i j p))
+      go false false x y = omega (arith, ltb-false i j x, ltb-false j i y)
+
+  pair-at : (R : Entry → Entry → Type 0) → Pairwise R (slotState d w .entries) → (i j : ℕ) → i < j → j < d .count → R (eventAt w i) (eventAt w j)
+  pair-at R h i j l m =
+      subst (λ x. R x (eventAt w j)) (us-at d w (within r) i (omega arith))
+      (subst (R (getD (slotState d w .entries) i noEntry)) (us-at d w (within r) j m) (pairwise-at R noEntry (slotState d w .entries) h i j l (omega (arith, in-slots w (d .count) (within r)))))
+
+  pub distinct : Distinct d w
+  distinct = apart-at (λ i j l m e. omega (arith, pair-at _ (sound-of r .ids) i j l m)) (λ i j e. sym e)
+
+  pub one-holder : OneHolderIn d w
+  one-holder i j k l m p q = apart-at {P = λ i j. (has (maskAt w i) k ≡ true) × (has (maskAt w j) k ≡ true)} (λ i j l m e. pair-at _ (sound-of r .apart) i j l m k (e .0) (e .1)) (λ i j e. (e .1, e .0)) i j l m (p, q)
+
+  pub numbered : Numbered (d .count) w
+  numbered i l = omega (arith, sound-of r .entries (eventAt w i) (event-in d w (within r) i l) .numbered)
+
+  pub ends-later : (i : ℕ) → i < d .count → d .clock < endOf (eventAt w i)
+  ends-later i l = sound-of r .entries (eventAt w i) (event-in d w (within r) i l) .lasts
+
+  pub at-first : (i : ℕ) → i < d .count → Before (d .clock + 1) (eventAt w i)
+  at-first i l =
+      let v = sound-of r .entries (eventAt w i) (event-in d w (within r) i l) in
+      record { short = v .short; early = λ h. v .early (omega arith); over = λ h. absurd (omega (arith, v .lasts)); stopped = v .stopped }
+
+  -- nothing has ended
+  pub standing : view (scheduleOf d w) ≡ stateIn (d .programs) (slotState d w .entries) (d .clock)
+  standing =
+      view-of r
+      ∙ ap (λ hs. record { clock = d .clock; programs = d .programs; entries = hs })
+      (sym (keep-all (lasts (d .clock)) (slotState d w .entries) (λ o m. lt-ltb (d .clock) (endOf o) (sound-of r .entries o m .lasts))))
+
+-- After the moments up to a clock.
+
+pub record Going (d : Head) (w : List (List ℕ)) (to : ℕ) (agenda old : List ℕ) (now : List (List ℕ)) (rows : List ℕ) (s : Standing) (ended clock k : ℕ) : Type 0 where
+  pub ready : Ready d w
+  pub planned : Agenda (d .clock) to (d .count) w agenda
   pub last : to ≤ lastClock
-  pub count : n ≡ s .count
-  pub columned : Columned (s .programs) (s .entries) n c
-  pub long : Long c
   pub size : length old ≡ rowsSize
+  pub from : d .clock ≤ clock
   pub order : clock ≤ to
-  -- the entries as they stand, and the rows so far
-  pub us : List Entry
+  pub reached : Reached agenda clock k
+  pub masks : MasksOnly w now
+  pub holders : Holders (d .count) now (s .holding)
+  pub before : (i : ℕ) → i < d .count → Before (clock + 1) (eventAt now i)
+  pub apart : OneHolderIn d now
+  pub over : SetOf (d .count) (λ i. endOf (eventAt now i) ≤ clock) ended
+  -- the rows so far
   pub done : List Row
-  pub now : Now (s .entries) us n held
-  pub state : Sound (stateIn (s .programs) us clock)
-  pub split : passed (view s) to ≡ onward (record { state = stateIn (s .programs) us clock; rows = done }) (advance (to - clock) (stateIn (s .programs) us clock))
-  pub written : Written old 0 rows at done
+  pub state : Sound (stateIn (d .programs) (slotState d now .entries) clock)
+  pub split : passed (view (scheduleOf d w)) to
+      ≡ onward (record { state = stateIn (d .programs) (slotState d now .entries) clock; rows = done }) (advance (to - clock) (stateIn (d .programs) (slotState d now .entries) clock))
+  pub written : Written old 0 rows (s .rows) done
 
--- before the first: nothing has ended
-pub start : (s : Schedule) (to : ℕ) (c : Columns) (old held : List ℕ) → sound s ≡ true → s .clock ≤ to → to ≤ lastClock → length old ≡ rowsSize
-    → Columned (s .programs) (s .entries) (s .count) c → Long c → ((k : ℕ) → k < s .count → getD held k 0 ≡ getD (s .entries) k noEntry .held)
-    → Going s to (s .count) c old old held (s .clock) 0
-start s to c old held good h l size w long masks =
-    let us = view s .entries in
-    let all : keep (lasts (s .clock)) us ≡ us = keep-all (lasts (s .clock)) us (λ o m. lt-ltb (s .clock) (endOf o) (sound-view s good .entries o m .lasts)) in
-    let same : view s ≡ stateIn (s .programs) us (s .clock) = ap (λ hs. record { clock = s .clock; programs = s .programs; entries = hs }) (sym all) in
-    record {
-      good = good;
-      last = l;
-      count = refl;
-      columned = w;
-      long = long;
-      size = size;
-      order = h;
-      us = us;
-      done = [];
-      now = record {
-        size = in-count s good;
-        alike = λ k i. let e = getD-take (s .count) (s .entries) k noEntry i in record { event = ap (λ o. o .event) e; begins = ap (λ o. o .begins) e; cancelled = ap (λ o. o .cancelled) e };
-        held = λ k i. masks k i ∙ sym (ap (λ o. o .held) (getD-take (s .count) (s .entries) k noEntry i));
-      };
-      state = subst Sound same (sound-view s good);
-      split = ap (λ v. advance (to - s .clock) v) same;
-      written = no-row old 0;
-    }
+pub start : {d : Head} {w : List (List ℕ)} {to : ℕ} {agenda old : List ℕ} {holding : ℕ} → Ready d w → Agenda (d .clock) to (d .count) w agenda → d .clock ≤ to → to ≤ lastClock → length old ≡ rowsSize
+    → Holders (d .count) w holding → Going d w to agenda old w old (record { holding = holding; rows = 0 }) 0 (d .clock) 0
+start {d} {w} {to} {agenda} {old} r g h l size holders = record {
+  ready = r;
+  planned = g;
+  last = l;
+  size = size;
+  from = omega arith;
+  order = h;
+  reached = begin g (r .used .few) l h (ends-later r);
+  masks = record { size = r .used .size; each = λ i. refl };
+  holders = holders;
+  before = at-first r;
+  apart = one-holder r;
+  over = λ i. (λ e. not-has 0 i refl e, λ q. absurd (omega (arith, q .1, ends-later r i (q .0))));
+  done = [];
+  state = subst Sound (sym (view-of r) ∙ standing r) (sound-of r);
+  split = ap (λ v. advance (to - d .clock) v) (standing r);
+  written = no-row old 0;
+}
 
-module _ {s : Schedule} {to n : ℕ} {c : Columns} {old rows held : List ℕ} {clock at : ℕ} (g : Going s to n c old rows held clock at) where
+module _ {d : Head} {w : List (List ℕ)} {to : ℕ} {agenda old : List ℕ} {now : List (List ℕ)} {rows : List ℕ} {s : Standing} {ended clock k : ℕ} (g : Going d w to agenda old now rows s ended clock k) where
   abbrev ps : List Program
-  ps = s .programs
+  ps = d .programs
 
-  pub below : n ≤ mostEvents
-  below = omega (arith, g .count, rules s (g .good) .count)
+  abbrev hs : List Entry
+  hs = slotState d now .entries
 
-  fits : (a : List ℕ) → length a ≡ mostEvents → n ≤ length a
-  fits a e = omega (arith, below)
+  few : d .count ≤ length now
+  few = omega (arith, g .ready .used .few, g .masks .size)
 
-  -- the ids ascend
-  pub ids-ascend : Pairwise _<_ (take n (c .ids))
-  ids-ascend =
-      let e : take n (c .ids) ≡ map entryId (view s .entries) =
-      front-is entryId noEntry (view s .entries) (c .ids) n (in-count s (g .good) ∙ sym (g .count)) (fits (c .ids) (g .long .ids))
-      (λ k i. g .columned .ids k i ∙ sym (ap entryId (getD-take (s .count) (s .entries) k noEntry (omega (arith, g .count))))) in
-      subst (Pairwise _<_) (sym e) (asc-map ById _<_ entryId (λ x y b. b) (view s .entries) (sound-view s (g .good) .ids))
+  same-end : (i : ℕ) → endOf (eventAt now i) ≡ endOf (eventAt w i)
+  same-end i = ap endOf (g .masks .each i)
 
-  module _ (t : ℕ) (e : t ≡ nextOf clock (to + 1) n (c .begins) (c .ends)) where
-    pub after-now : (clock < t) × (t ≤ to + 1)
-    after-now = let a = next-after clock (to + 1) (c .begins) (c .ends) (omega (arith, g .order)) n in (omega (arith, a .later, e), omega (arith, a .limited, e))
+  same-begin : (i : ℕ) → eventAt now i .begins ≡ eventAt w i .begins
+  same-begin i = ap (λ h. h .begins) (g .masks .each i)
 
-    still : All (Idle clock (t - suc clock)) (keep (lasts clock) (g .us))
-    still =
-        subst (λ u. All (Idle clock (u - suc clock)) (keep (lasts clock) (g .us))) (sym e)
-        (next-idle clock (to + 1) (c .begins) (c .ends) (omega (arith, g .order)) (g .us) n (g .now .size)
-        (is-begins ps (s .entries) (g .us) n c (g .columned) held (g .now) t) (is-end ps (s .entries) (g .us) n c (g .columned) held (g .now) t))
+  same-stopped : (i : ℕ) → eventAt now i .cancelled ≡ eventAt w i .cancelled
+  same-stopped i = ap (λ h. h .cancelled) (g .masks .each i)
+
+  module _ (t : ℕ) (e : t ≡ getD agenda k 0 / secondWidth) where
+    pub next-later : clock < t
+    next-later = later (g .planned) (g .ready .used .few) (g .last) (g .reached) (g .from) e
+
+    -- Nothing begins or ends before the next moment.
+
+    module _ (u : ℕ) (b : u < t) (c : u ≤ to) where
+      clear-start : (i : ℕ) → i < d .count → eventAt w i .cancelled ≡ false → clock < eventAt w i .begins → u < eventAt w i .begins
+      clear-start i l o h = lt-of-not-le (λ m. omega (arith, no-start (g .planned) (g .ready .used .few) (g .last) (g .reached) (g .from) e i l o h (omega arith)))
+
+      clear-end : (i : ℕ) → i < d .count → clock < endOf (eventAt w i) → u < endOf (eventAt w i)
+      clear-end i l h = lt-of-not-le (λ m. omega (arith, no-end (g .planned) (g .ready .used .few) (g .last) (g .reached) (g .from) e i l h (omega arith)))
+
+      still : clock ≤ u → All (Idle clock (u - clock)) (keep (lasts clock) hs)
+      still a o m =
+          let q = in-keep (lasts clock) o hs m in
+          let p = in-event d now few o (q .0) in
+          subst (Idle clock (u - clock)) (p .2) (idle-at (p .0) (p .1) (subst (λ h. clock < endOf h) (sym (p .2)) (ltb-true clock (endOf o) (q .1))))
+        where
+          there : clock + (u - clock) ≡ u
+          there = omega arith
+
+          idle-at : (i : ℕ) → i < d .count → clock < endOf (eventAt now i) → Idle clock (u - clock) (eventAt now i)
+          idle-at i l h = record {
+            begins = λ o. rw (there, same-begin i) (go (sym (same-stopped i) ∙ o) (ltb clock (eventAt w i .begins)) refl);
+            ends = rw (there, same-end i) (clear-end i l (rw (same-end i) at h));
+          }
+            where
+              go : eventAt w i .cancelled ≡ false → (x : Bool) → ltb clock (eventAt w i .begins) ≡ x → (eventAt w i .begins ≤ clock) ⊎ (u < eventAt w i .begins)
+              go o true y = inr (clear-start i l o (ltb-true clock (eventAt w i .begins) y))
+              go o false y = inl (ltb-false clock (eventAt w i .begins) y)
 
     -- A moment up to the reading.
 
-    module _ (h : t ≤ to) (claims kept codes : List ℕ)
-        (p : Claims t n (c .begins) (c .ends) (c .controls) held claims)
-        (q : take n kept ≡ settled (claimants (take n claims) (take n (c .primacies)) (take n (c .created)) (take n (c .ids))))
-        (r : Codes t n (c .begins) (c .ends) held kept codes) where
+    module _ (soon : t ≤ to) {p q : Taken} (u : TakenTo agenda k (t * secondWidth + setWidth) p) (v : TakenTo agenda (p .next) (t * secondWidth + secondWidth) q) where
+      quiet : All (Idle clock (t - 1 - clock)) (keep (lasts clock) hs)
+      quiet = still (t - 1) (omega (arith, next-later)) (omega arith) (omega (arith, next-later))
+
+      whole : t ≡ suc (clock + (t - 1 - clock))
+      whole = omega (arith, next-later)
+
+      in-time : clock + (t - 1 - clock) ≤ lastClock
+      in-time = omega (arith, next-later, g .last)
+
       abbrev next : List Entry
-      next = settledAt ps t (g .us)
+      next = settledAt ps t hs
 
-      masks : (k : ℕ) → k < n → getD kept k 0 ≡ heldAt ps t (g .us) (getD (g .us) k noEntry)
-      masks = kept-are ps (s .entries) (g .us) n c (g .columned) held (g .now) t claims kept (fits claims (p .size)) (fits (c .primacies) (g .long .primacies)) (fits (c .created) (g .long .created)) (fits (c .ids) (g .long .ids)) p q
-
-      rows-here : momentRows t n (c .ids) codes ≡ rowsAt ps t (g .us)
-      rows-here = rows-are ps (s .entries) (g .us) n c (g .columned) held (g .now) t codes (codes-are ps (s .entries) (g .us) n c (g .columned) held (g .now) t kept codes masks r)
-
-      whole : t ≡ suc (clock + (t - suc clock))
-      whole = omega (arith, after-now .0)
-
-      in-time : clock + (t - suc clock) ≤ lastClock
-      in-time = omega (arith, after-now .0, g .last)
-
-      split-next : passed (view s) to ≡ onward (record { state = stateIn ps next t; rows = g .done ++ rowsAt ps t (g .us) }) (advance (to - t) (stateIn ps next t))
+      split-next : passed (view (scheduleOf d w)) to ≡ onward (record { state = stateIn ps next t; rows = g .done ++ rowsAt ps t hs }) (advance (to - t) (stateIn ps next t))
       split-next =
           let rest = advance (to - t) (stateIn ps next t) in
           g .split
-          ∙ ap (onward (record { state = stateIn ps (g .us) clock; rows = g .done })) (moment-then ps (g .us) clock (t - suc clock) (g .state) in-time still t to whole h)
-          ∙ ap (λ rs. record { state = rest .state; rows = rs }) (sym (append-assoc (g .done) (rowsAt ps t (g .us)) (rest .rows)))
+          ∙ ap (onward (record { state = stateIn ps hs clock; rows = g .done })) (moment-then ps hs clock (t - 1 - clock) (g .state) in-time quiet t to whole soon)
+          ∙ ap (λ rs. record { state = rest .state; rows = rs }) (sym (append-assoc (g .done) (rowsAt ps t hs) (rest .rows)))
 
-      pub room : at + length (momentRows t n (c .ids) codes) ≤ mostRows
+      room : s .rows + length (rowsAt ps t hs) ≤ mostRows
       room =
           let rest = advance (to - t) (stateIn ps next t) in
           omega (
             arith,
-            few-rows s (g .good) to,
+            few-rows (scheduleOf d w) (g .ready .good) to,
             ap (λ m. length (m .rows)) split-next,
-            length-append (g .done ++ rowsAt ps t (g .us)) (rest .rows),
-            length-append (g .done) (rowsAt ps t (g .us)),
-            ap length rows-here,
+            length-append (g .done ++ rowsAt ps t hs) (rest .rows),
+            length-append (g .done) (rowsAt ps t hs),
             g .written .count,
           )
 
-      pub step : (rows′ : List ℕ) (at′ : ℕ) → Written rows at rows′ at′ (momentRows t n (c .ids) codes) → Going s to n c old rows′ kept t at′
-      step rows′ at′ w = record {
-        good = g .good;
-        last = g .last;
-        count = g .count;
-        columned = g .columned;
-        long = g .long;
-        size = g .size;
-        order = h;
-        us = next;
-        done = g .done ++ rowsAt ps t (g .us);
-        now = now-next ps (s .entries) (g .us) n c (g .columned) held (g .now) t kept masks;
-        state = sound-moment ps (g .us) clock (t - suc clock) (g .state) in-time still t whole (omega (arith, g .last));
-        split = split-next;
-        written = rows-then (g .written) (subst (Written rows at rows′ at′) rows-here w);
+      -- who has ended before holds nothing
+      before-it : (i : ℕ) → i < d .count → Before t (eventAt now i)
+      before-it i l =
+          let b = g .before i l in
+          record {
+            short = b .short;
+            early = λ h. b .early (omega (arith, next-later));
+            over = λ h. b .over (rw (same-end i) (gone-by (rw (same-end i) at h)));
+            stopped = b .stopped;
+          }
+        where
+          gone-by : endOf (eventAt w i) < t → endOf (eventAt w i) < clock + 1
+          gone-by h = lt-of-not-le (λ m. omega (arith, clear-end (endOf (eventAt w i)) h (omega arith) i l (omega arith)))
+
+      abbrev due : Due
+      due = record { ending = p .places; starting = q .places }
+
+      pub ahead : Ahead d now t due s rows
+      ahead = record {
+        held = record {
+          used = record { few = g .ready .used .few; size = g .masks .size };
+          numbered = λ i l. rw (same-event (g .masks) i) (numbered (g .ready) i l);
+          holders = g .holders;
+        };
+        distinct = λ i j l m h. distinct (g .ready) i j l m (ap idOf (sym (same-event (g .masks) i)) ∙ h ∙ ap idOf (same-event (g .masks) j));
+        before = before-it;
+        apart = g .apart;
+        ending = λ i. rw (same-end i) (ending (g .planned) (g .ready .used .few) (g .last) (g .reached) (g .from) e soon u i);
+        starting = λ i. rw (same-begin i, same-stopped i) (starting (g .planned) (g .ready .used .few) (g .last) (g .reached) (g .from) e soon u v i);
+        size = g .written .size ∙ g .size;
+        room = room;
       }
+
+      module _ {new : List (List ℕ)} {after : List ℕ} {r : Standing} (x : Past d now new t s rows after r) where
+        -- the slots have the entries of the next state
+        entries-next : slotState d new .entries ≡ next
+        unfolding holdingAt
+        entries-next =
+            us-are d new (omega (arith, g .ready .used .few, x .masks .size))
+            ∙ map-cong (eventAt new) (λ i. withHolding (eventAt now i) (holdingAt ps t hs (eventAt now i))) (placesTo (d .count))
+            (λ i m. x .masks .each i ∙ ap (λ z. withHolding (eventAt now i) (record { held = z })) (x .settled i (place-below (d .count) i m)))
+            ∙ sym (map-map (λ h. withHolding h (holdingAt ps t hs h)) (eventAt now) (placesTo (d .count)))
+            ∙ ap (map (λ h. withHolding h (holdingAt ps t hs h))) (sym (us-are d now few))
+
+        -- what has ended by now had ended, or ends
+        over-next : SetOf (d .count) (λ i. endOf (eventAt w i) ≤ t) (bitOr ended (p .places))
+        unfolding join
+        over-next i = rw (has-join ended (p .places) i) (to-now (has ended i) refl, from-now)
+          where
+            ends-now : SetOf (d .count) (λ i. endOf (eventAt w i) ≡ t) (p .places)
+            ends-now = ending (g .planned) (g .ready .used .few) (g .last) (g .reached) (g .from) e soon u
+
+            to-now : (b : Bool) → has ended i ≡ b → (b || has (p .places) i) ≡ true → (i < d .count) × (endOf (eventAt w i) ≤ t)
+            to-now true f y = let z = g .over i .0 f in (z .0, omega (arith, same-end i, z .1, next-later))
+            to-now false f y = let z = ends-now i .0 y in (z .0, omega (arith, z .1))
+
+            from-now : (i < d .count) × (endOf (eventAt w i) ≤ t) → (has ended i || has (p .places) i) ≡ true
+            from-now y = go (ltb clock (endOf (eventAt w i))) refl
+              where
+                go : (b : Bool) → ltb clock (endOf (eventAt w i)) ≡ b → (has ended i || has (p .places) i) ≡ true
+                go true f = ap (λ z. has ended i || z) (ends-now i .1 (y .0, omega (arith, y .1, no-end (g .planned) (g .ready .used .few) (g .last) (g .reached) (g .from) e i (y .0) (ltb-true clock (endOf (eventAt w i)) f) (omega (arith, y .1))))) ∙ or-true (has ended i)
+                go false f = rw (g .over i .1 (y .0, omega (arith, same-end i, ltb-false clock (endOf (eventAt w i)) f)))
+
+        -- who claims nothing has nothing
+        before-next : (i : ℕ) → i < d .count → Before (t + 1) (eventAt new i)
+        before-next i l =
+            let h = eventAt now i in
+            let begins : eventAt new i .begins ≡ h .begins = ap (λ o. o .begins) (x .masks .each i) in
+            let end : endOf (eventAt new i) ≡ endOf h = ap endOf (x .masks .each i) in
+            let stopped : eventAt new i .cancelled ≡ h .cancelled = ap (λ o. o .cancelled) (x .masks .each i) in
+            record {
+              short = rw (begins, end) (g .before i l .short);
+              early = λ a. x .settled i l ∙ nothing-held ps t hs h (claim-early t h (omega (arith, begins)));
+              over = λ a. x .settled i l ∙ nothing-held ps t hs h (claim-ended t h (omega (arith, end)));
+              stopped = λ a. x .settled i l ∙ nothing-held ps t hs h (claim-cancelled t h (sym stopped ∙ a));
+            }
+
+        pub step : Going d w to agenda old new after r (bitOr ended (p .places)) t (q .next)
+        step = record {
+          ready = g .ready;
+          planned = g .planned;
+          last = g .last;
+          size = g .size;
+          from = omega (arith, next-later, g .from);
+          order = soon;
+          reached = reach-next (g .planned) (g .ready .used .few) (g .last) (g .reached) (g .from) e soon u v;
+          masks = masks-trans (g .masks) (x .masks);
+          holders = x .holders;
+          before = before-next;
+          apart = x .apart;
+          over = λ i. rw (ap endOf (x .masks .each i), same-end i) (over-next i);
+          done = g .done ++ rowsAt ps t hs;
+          state = subst (λ us. Sound (stateIn ps us t)) (sym entries-next) (sound-moment ps hs clock (t - 1 - clock) (g .state) in-time quiet t whole (omega (arith, g .last)));
+          split = split-next ∙ ap (λ us. onward (record { state = stateIn ps us t; rows = g .done ++ rowsAt ps t hs }) (advance (to - t) (stateIn ps us t))) (sym entries-next);
+          written = rows-then (g .written) (x .written);
+        }
 
     -- No moment up to the reading any more.
 
     module _ (h : to < t) where
-      quiet : advance (to - clock) (stateIn ps (g .us) clock) ≡ record { state = stateIn ps (g .us) to; rows = [] }
-      quiet = quiet-to ps (g .us) clock (t - suc clock) (g .state) (omega (arith, after-now .0, after-now .1, g .last)) still to (omega (arith, after-now .0, after-now .1))
-
-      there : passed (view s) to ≡ record { state = stateIn ps (g .us) to; rows = g .done }
+      there : passed (view (scheduleOf d w)) to ≡ record { state = stateIn ps hs to; rows = g .done }
       there =
-          g .split ∙ ap (onward (record { state = stateIn ps (g .us) clock; rows = g .done })) quiet
-          ∙ ap (λ rs. record { state = stateIn ps (g .us) to; rows = rs }) (append-nil (g .done))
+          g .split
+          ∙ ap (onward (record { state = stateIn ps hs clock; rows = g .done })) (quiet-to ps hs clock (to - clock) (g .state) (omega (arith, g .order, g .last)) (still to h (omega arith) (g .order)) to (omega (arith, g .order)))
+          ∙ ap (λ rs. record { state = stateIn ps hs to; rows = rs }) (append-nil (g .done))
 
-      -- the entries as they stand are the first ones with their masks
-      all-masked : g .us ≡ masked (s .count) (s .entries) held
-      unfolding masked
-      all-masked =
-          let f : ℕ → Entry = λ j. withHolding (getD (s .entries) j noEntry) (record { held = getD held j 0 }) in
-          let size : length (placesTo (s .count)) ≡ n = places-length (s .count) ∙ sym (g .count) in
-          ext-getD noEntry (g .us) (map f (placesTo (s .count))) (g .now .size ∙ sym (length-map (placesTo (s .count)) f ∙ size))
-          (λ k l. let a = g .now .alike k (omega (arith, g .now .size)) in
-          (λ j. record { event = a .event j; begins = a .begins j; held = sym (g .now .held k (omega (arith, g .now .size))) j; cancelled = a .cancelled j })
-          ∙ sym (at-map f 0 noEntry (placesTo (s .count)) k (omega (arith, size, g .now .size)) ∙ ap f (place-at (s .count) k (omega (arith, g .count, g .now .size)))))
-
-      pub stop : length held ≡ mostEvents → Passes s to rows at held
-      stop long = record {
-        masks = long;
-        state = ap (λ m. m .state) there ∙ ap (λ us. stateIn ps us to) all-masked;
+      pub stop : Passes d w to rows ended (s .rows) now
+      stop = record {
+        masks = g .masks;
+        over = λ i. (
+          λ f. let z = g .over i .0 f in (z .0, omega (arith, z .1, g .order)),
+          λ y. g .over i .1 (y .0, by-contra (endOf (eventAt now i)) clock (λ z. omega (arith, y .1, same-end i, clear-end to h (omega arith) i (y .0) (omega (arith, same-end i, z))))),
+        );
+        state = ap (λ m. m .state) there;
         rows = omega (arith, g .written .count, ap (λ m. length (m .rows)) there);
         written = g .written .front ∙ ap (λ m. bytes (m .rows)) (sym there);
         size = g .written .size ∙ g .size;
       }
 
--- Slots.
+-- The whole call.
 
-module _ {d : Head} {w : List (List ℕ)} (r : Ready d w) where
-  abbrev whole-of : Schedule
-  whole-of = scheduleOf d w
+module _ {d : Head} {w : List (List ℕ)} {to : ℕ} (r : Ready d w) where
+  -- an agenda of nothing
+  pub none-due : {agenda rows : List ℕ} → Agenda (d .clock) to (d .count) w agenda → d .clock ≤ to → to ≤ lastClock → length rows ≡ rowsSize → getD agenda 0 0 ≡ nothing → Passes d w to rows 0 0 w
+  none-due {agenda} g h l size e = stop (start r g h l size (some-holders w (d .count) .1)) (getD agenda 0 0 / secondWidth) refl (omega (arith, e))
 
-  -- a column of the slots has the fields of the entries
-  column : (f : Entry → ℕ) (k : ℕ) → k < d .count → getD (map (λ x. f (entryOf x)) w) k 0 ≡ f (getD (whole-of .entries) k noEntry)
-  column f k l = at-map (λ x. f (entryOf x)) [] 0 w k (omega (arith, within r)) ∙ sym (ap f (entry-at r k l))
+  module _ {rows : List ℕ} {ended count : ℕ} {mid : List (List ℕ)} (p : Passes d w to rows ended count mid) where
+    pub in-use : InUse (d .count) mid
+    in-use = record { few = r .used .few; size = p .masks .size }
 
-  module _ (running : Uncancelled (d .count) w) (begins ends carried held : List ℕ) (t : MomentColumns (d .count) w begins ends carried held) where
-    abbrev columns : Columns
-    columns = columnsOf (d .programs) w begins ends carried
+    -- who stays lasts
+    lasting : map (eventAt mid) (keep (λ i. not (has ended i)) (placesTo (d .count))) ≡ keep (lasts to) (slotState d mid .entries)
+    lasting =
+        ap (map (eventAt mid)) (keep-cong (λ i. not (has ended i)) (λ i. lasts to (eventAt mid i)) (placesTo (d .count)) (λ i m. go i (place-below (d .count) i m) (has ended i) refl))
+        ∙ sym (keep-map (lasts to) (eventAt mid) (placesTo (d .count))) ∙ ap (keep (lasts to)) (sym (us-are d mid (omega (arith, in-use .few, in-use .size))))
+      where
+        go : (i : ℕ) → i < d .count → (b : Bool) → has ended i ≡ b → not b ≡ lasts to (eventAt mid i)
+        go i l true e = sym (le-ltb to (endOf (eventAt mid i)) (p .over i .0 e .1))
+        go i l false e = sym (lt-ltb to (endOf (eventAt mid i)) (lt-of-not-le (λ m. both (has ended i) (p .over i .1 (l, m)) e)))
 
-    columned : Columned (d .programs) (whole-of .entries) (d .count) columns
-    unfolding primaciesOf createdOf idsOf
-    columned = record {
-      running = λ k l. ap (λ h. h .cancelled) (entry-at r k l) ∙ running k l;
-      begins = λ k l. t .from k l ∙ sym (ap (λ h. h .begins) (entry-at r k l));
-      ends = λ k l. t .till k l ∙ sym (ap endOf (entry-at r k l));
-      controls = λ k l. t .controls k l ∙ sym (ap (λ h. h .event .controls) (entry-at r k l));
-      primacies = column (λ h. programAt (d .programs) (h .event .program) .primacy);
-      created = column (λ h. h .event .created);
-      ids = column (λ h. idOf (h .event));
+    pub advanced : {k : ℕ} {next : List (List ℕ)} → Finished (d .count) ended mid next k → Advances d w to rows (record { head = record { clock = to; count = k; programs = d .programs }; rows = count }) next
+    advanced f = record {
+      used = f .used;
+      advanced = record {
+        schedule = ap (λ es. pad (record { clock = to; programs = d .programs; entries = es })) (f .lasting ∙ lasting) ∙ ap pad (sym (p .state));
+        rows = p .rows;
+        written = p .written;
+        size = p .size;
+      };
     }
 
-    long-of : Long columns
-    long-of = record { primacies = primacies-long w (d .programs) ∙ r .used .size; created = created-long w ∙ r .used .size; ids = ids-long w ∙ r .used .size }
-
-    pub begin : (to : ℕ) (old : List ℕ) → d .clock ≤ to → to ≤ lastClock → length old ≡ rowsSize → Going whole-of to (d .count) columns old old held (d .clock) 0
-    begin to old h l size =
-        subst (λ n. Going whole-of to n columns old old held (d .clock) 0) (count-of r)
-        (start whole-of to columns old held (r .good) h l size (subst (λ n. Columned (d .programs) (whole-of .entries) n columns) (sym (count-of r)) columned) long-of
-        (λ k i. let j : k < d .count = omega (arith, count-of r) in t .masks k j ∙ sym (ap (λ h. h .held) (entry-at r k j))))
-
-  -- the events of sound slots have programs
-  pub numbered : Numbered (d .count) w
-  numbered k l =
-      let it = sound-of r .entries (getD (slotState d w .entries) k noEntry) (at-in noEntry (slotState d w .entries) k (omega (arith, count-of r))) in
-      omega (arith, rw (slot-at w (d .count) (within r) k l) at (it .numbered))
+    -- nothing has ended
+    pub none-ended : ended ≡ 0 → Finished (d .count) ended mid mid (d .count)
+    none-ended e = record {
+      used = in-use;
+      lasting = us-are d mid (omega (arith, in-use .few, in-use .size)) ∙ ap (map (eventAt mid)) (sym (keep-all (λ i. not (has ended i)) (placesTo (d .count)) (λ i m. rw (e, has-none))));
+    }

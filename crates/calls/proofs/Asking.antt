@@ -1,39 +1,22 @@
 -- A question, place by place: the first event that holds the control, and the best default from the back.
 use mathlib.Core.Path.{_≡_, sym, ap, _∙_}
 use Prim.Native.Nat.{ℕ, suc, _+_, _<_, _≤_}
-use mathlib.Core.Bool.{Bool, true, false, not, _&&_}
+use mathlib.Core.Bool.{true, false}
 use mathlib.Core.List.{List, [], _∷_, map}
 use native.Mathlib.Numerals.{add-one}
 use native.Mathlib.Omega.{arith}
 use lib.ListN.{length, take, drop, getD, drop-of-length-le}
 use lib.Seq.{drop-cons}
-use borrow.Author.Tests.{le-leb, lt-leb, not-true, not-false}
 use Rattle.rules.specs.declared.Entry.{Entry}
 use Rattle.rules.specs.declared.Program.{Program}
 use Rattle.rules.specs.Records.{has, noProgram, noEntry}
-use Rattle.rules.specs.Calls.{Value, entryId, holder, default, nobody, holderIn, bestOf, bestDefault, defaultFor}
+use Rattle.rules.specs.Calls.{Value, entryId, holder, holderIn, bestOf, bestDefault}
 use Rattle.calls.specs.declared.programs.Best.{Best}
 use Rattle.calls.specs.Best.{ranked, carrying}
 use Rattle.calls.specs.Slots.{entryOf}
 use Rattle.calls.proofs.Slots.{in-slots, slot-at}
 
 -- Defaults.
-
-module _ (c n : ℕ) (p : Program) (b : Best) (r : Bool) (is : r ≡ has (p .defaults) c) where
-  abbrev this : Best
-  this = record { found = true; number = n; primacy = p .primacy }
-
-  pub not-carried : not (p .added && r) ≡ true → ranked b ≡ bestOf (carrying c n p) (ranked b)
-  not-carried e = rw (← is, not-true (p .added && r) e)
-
-  pub first-carried : not (p .added && r) ≡ false → not (b .found) ≡ true → ranked this ≡ bestOf (carrying c n p) (ranked b)
-  first-carried e f = rw (← is, not-false (p .added && r) e, not-true (b .found) f)
-
-  pub as-good : not (p .added && r) ≡ false → not (b .found) ≡ false → p .primacy ≤ b .primacy → ranked this ≡ bestOf (carrying c n p) (ranked b)
-  as-good e f l = rw (← is, not-false (p .added && r) e, not-false (b .found) f, le-leb (p .primacy) (b .primacy) l)
-
-  pub worse : not (p .added && r) ≡ false → not (b .found) ≡ false → b .primacy < p .primacy → ranked b ≡ bestOf (carrying c n p) (ranked b)
-  worse e f l = rw (← is, not-false (p .added && r) e, not-false (b .found) f, lt-leb (p .primacy) (b .primacy) l)
 
 -- one more from the back
 pub default-next : (c i j : ℕ) (ps : List Program) (b r : Best) → i ≡ suc j → i ≤ length ps → ranked b ≡ bestDefault c i (drop i ps)
@@ -69,10 +52,3 @@ module _ (c n : ℕ) (w : List (List ℕ)) (v : Value) (fits : n ≤ length w) w
   pub none-holds : (i : ℕ) → n ≤ i → v ≡ holderIn c (from i) v
   unfolding holderIn
   none-holds i l = rw (drop-of-length-le (map entryOf (take n w)) {i = i} (omega (arith, in-slots w n fits)))
-
--- the answer that the best default makes
-pub default-found : (c : ℕ) (ps : List Program) (b : Best) → ranked b ≡ bestDefault c 0 ps → b .found ≡ true → default (b .number) ≡ defaultFor (bestDefault c 0 ps)
-default-found c ps b e f = rw (← e, f)
-
-pub default-not : (c : ℕ) (ps : List Program) (b : Best) → ranked b ≡ bestDefault c 0 ps → b .found ≡ false → nobody ≡ defaultFor (bestDefault c 0 ps)
-default-not c ps b e f = rw (← e, f)

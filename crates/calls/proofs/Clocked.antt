@@ -14,17 +14,19 @@ use Rattle.rules.specs.Records.{lastClock, view, mostRows}
 use Rattle.rules.specs.Moments.{passed}
 use Rattle.rules.specs.Sound.{sound}
 use Rattle.rules.specs.Refusals.{clockChecks}
-use Rattle.rules.specs.Calls.{Outcome, setClock, nothing, count, counted, does, checks, call}
+use Rattle.rules.specs.Calls.{Outcome, setClock, nothing, count, counted, valueOf, does, checks, call}
 use Rattle.rules.specs.declared.Answer.the-variants.{Refused, Count}
 use Rattle.rules.specs.Bytes.{rowSize, rowsSize}
 use Rattle.rules.proofs.Tests.{either-false}
 use Rattle.rules.proofs.Bound.{few-rows}
 use Rattle.rules.proofs.CallLaws.{done}
+use Rattle.calls.specs.declared.Acted.{Acted}
 use Rattle.calls.specs.declared.held.Head.{Head}
 use Rattle.calls.specs.declared.advance.Passed.{Passed}
-use Rattle.calls.specs.Slots.{scheduleOf, Ready}
+use Rattle.calls.specs.Slots.{scheduleOf, InUse, Ready}
+use Rattle.calls.specs.Answered.{outcomeIn}
 use Rattle.calls.specs.Advanced.{Advanced, Advances, Reads}
-use Rattle.calls.proofs.Answers.{given}
+use Rattle.calls.proofs.Acting.{given}
 
 module _ (s : Schedule) (e : sound s ≡ true) (t : ℕ) where
   pub out-of-range : (ltb t (s .clock) || ltb lastClock t) ≡ true → (b : List ℕ) → record { number = 12; value = nothing; state = s; bytes = b; records = [] } ≡ call s (setClock t b)
@@ -59,22 +61,22 @@ module _ (s : Schedule) (e : sound s ≡ true) (t : ℕ) where
 
 -- On slots.
 
-module _ {d : Head} {w : List (List ℕ)} (r : Ready d w) (t : ℕ) (rows : List ℕ) where
-  -- the bytes at the front are those of an outcome's buffer
-  abbrev Front : Outcome → Type 0
-  Front o = take (rowSize * counted (o .value)) rows ≡ take (rowSize * counted (o .value)) (o .bytes)
+-- the call gives the same with every buffer that all rows fit, and these rows at its front
+reads : {s : Schedule} {t : ℕ} {rows : List ℕ} {r : Acted} {next : List (List ℕ)} → InUse (r .head .count) next → length rows ≡ rowsSize → (out : List ℕ → List ℕ)
+    → ((b : List ℕ) → length b ≡ rowsSize → outcomeIn r next (out b) ≡ call s (setClock t b))
+    → ((b : List ℕ) → let n = rowSize * counted (valueOf (r .answer)) in take n rows ≡ take n (out b)) → Reads s t r next rows
+reads {rows = rows} used long out is front = record {
+  used = used;
+  long = long;
+  number = λ b m. ap (λ (o : Outcome). o .number) (is b m);
+  value = λ b m. ap (λ (o : Outcome). o .value) (is b m);
+  state = λ b m. ap (λ (o : Outcome). o .state) (is b m);
+  written = λ b m. subst (λ (o : Outcome). let n = rowSize * counted (o .value) in take n rows ≡ take n (o .bytes)) (is b m) (front b);
+}
 
+module _ {d : Head} {w : List (List ℕ)} (r : Ready d w) (t : ℕ) (rows : List ℕ) where
   pub reads-none : (ltb t (d .clock) || ltb lastClock t) ≡ true → length rows ≡ rowsSize → Reads (scheduleOf d w) t (record { answer = Refused 12; head = d }) w rows
-  reads-none q l =
-      let out = out-of-range (scheduleOf d w) (r .good) t q in
-      record {
-        used = r .used;
-        long = l;
-        number = λ b m. ap (λ (o : Outcome). o .number) (out b);
-        value = λ b m. ap (λ (o : Outcome). o .value) (out b);
-        state = λ b m. ap (λ (o : Outcome). o .state) (out b);
-        written = λ b m. subst Front (out b) refl;
-      }
+  reads-none q l = reads (r .used) l (λ b. b) (λ b m. out-of-range (scheduleOf d w) (r .good) t q b) (λ b. refl)
 
   pub reads-rows : (ltb t (d .clock) || ltb lastClock t) ≡ false → (p : Passed) (next : List (List ℕ)) → Advances d w t rows p next
       → Reads (scheduleOf d w) t (record { answer = Count (p .rows); head = p .head }) next rows
@@ -82,13 +84,6 @@ module _ {d : Head} {w : List (List ℕ)} (r : Ready d w) (t : ℕ) (rows : List
       let v = a .advanced in
       let s = scheduleOf d w in
       let end = scheduleOf (p .head) next in
-      let is : (b : List ℕ) → length b ≡ rowsSize → record { number = 0; value = count (p .rows); state = end; bytes = over (take (rowSize * p .rows) rows) b; records = [] } ≡ call s (setClock t b) =
-      λ b m. fits s (r .good) t q rows end (p .rows) v b (omega (arith, few s (r .good) t q rows end (p .rows) v)) in
-      record {
-        used = a .used;
-        long = v .size;
-        number = λ b m. ap (λ (o : Outcome). o .number) (is b m);
-        value = λ b m. ap (λ (o : Outcome). o .value) (is b m);
-        state = λ b m. ap (λ (o : Outcome). o .state) (is b m);
-        written = λ b m. subst Front (is b m) (front s (r .good) t q rows end (p .rows) v b);
-      }
+      reads (a .used) (v .size) (over (take (rowSize * p .rows) rows))
+      (λ b m. fits s (r .good) t q rows end (p .rows) v b (omega (arith, few s (r .good) t q rows end (p .rows) v)))
+      (front s (r .good) t q rows end (p .rows) v)

@@ -2,10 +2,11 @@
 use mathlib.Core.Path.{_≡_, refl, sym, ap, _∙_}
 use mathlib.Core.Logic.{_⊎_, inl, inr}
 use Prim.Native.Nat.{ℕ, suc, _+_, _-_, _/_, _%_, _<_, _≤_}
-use mathlib.Core.Bool.{Bool, true, false, cond}
+use mathlib.Core.Bool.{false}
 use mathlib.Core.List.{List, [], _∷_, _++_}
 use native.Mathlib.Omega.{arith}
 use borrow.Author.Tests.{eq-eqb, ne-eqb}
+use borrow.Table.Steps.{cases}
 use lib.Dec.{ltb, eqb}
 use lib.ListN.{length, getD, take, drop, length-drop, drop-of-length-le, take-append-drop}
 use lib.Seq.{drop-cons, length-take-le, getD-drop}
@@ -20,31 +21,18 @@ use Rattle.calls.specs.Lines.{endedOf, upTo}
 pub ended-first : (l : List ℕ) → upTo l < length l → endedOf l ≡ take (upTo l) l ∷ endedOf (drop (suc (upTo l)) l)
 unfolding endedOf upTo
 ended-first [] h = absurd (omega arith)
-ended-first (b ∷ bs) h = by (eqb b 10) refl (ended-first bs)
-  where
-    by : (t : Bool) → eqb b 10 ≡ t → (upTo bs < length bs → endedOf bs ≡ take (upTo bs) bs ∷ endedOf (drop (suc (upTo bs)) bs))
-        → endedOf (b ∷ bs) ≡ take (upTo (b ∷ bs)) (b ∷ bs) ∷ endedOf (drop (suc (upTo (b ∷ bs))) (b ∷ bs))
-    by true e ih = rw e
-    by false e ih = rw (e, ih (omega (arith, rw e at h)))
+ended-first (b ∷ bs) h = cases (eqb b 10) (λ e. rw e) (λ e. rw (e, ended-first bs (omega (arith, rw e at h))))
 
 -- a text without a line feed has no line that ends
 pub ended-none : (l : List ℕ) → upTo l ≡ length l → endedOf l ≡ []
 unfolding endedOf upTo
 ended-none [] h = refl
-ended-none (b ∷ bs) h = by (eqb b 10) refl (ended-none bs)
-  where
-    by : (t : Bool) → eqb b 10 ≡ t → (upTo bs ≡ length bs → endedOf bs ≡ []) → endedOf (b ∷ bs) ≡ []
-    by true e ih = absurd (omega (arith, rw e at h))
-    by false e ih = rw (e, ih (omega (arith, rw e at h)))
+ended-none (b ∷ bs) h = cases (eqb b 10) (λ e. absurd (omega (arith, rw e at h))) (λ e. rw (e, ended-none bs (omega (arith, rw e at h))))
 
 pub up-to-within : (l : List ℕ) → upTo l ≤ length l
 unfolding upTo
 up-to-within [] = omega arith
-up-to-within (b ∷ bs) = by (eqb b 10) (up-to-within bs)
-  where
-    by : (t : Bool) → upTo bs ≤ length bs → cond t 0 (suc (upTo bs)) ≤ length (b ∷ bs)
-    by true ih = omega arith
-    by false ih = omega arith
+up-to-within (b ∷ bs) = cases (eqb b 10) (λ e. rw e (omega arith)) (λ e. rw e (omega (arith, up-to-within bs)))
 
 module _ (l : List ℕ) (i : ℕ) where
   pub end-within : i ≤ length l → i + upTo (drop i l) ≤ length l
@@ -65,11 +53,7 @@ module _ (l : List ℕ) (i : ℕ) where
 -- no digit is a line feed, so behind pairs of digits it is the first
 no-feed : (d : ℕ) → eqb (hex d) 10 ≡ false
 unfolding hex
-no-feed d = by (ltb d 10)
-  where
-    by : (t : Bool) → eqb (cond t (d + 48) (d + 55)) 10 ≡ false
-    by true = ne-eqb (d + 48) 10 (λ e. omega arith)
-    by false = ne-eqb (d + 55) 10 (λ e. omega arith)
+no-feed d = cases (ltb d 10) (λ e. rw e (ne-eqb (d + 48) 10 (λ e. omega arith))) (λ e. rw e (ne-eqb (d + 55) 10 (λ e. omega arith)))
 
 up-to-pairs : (b rest : List ℕ) → upTo (hexed b ++ (10 ∷ rest)) ≡ length (hexed b)
 unfolding upTo hexed

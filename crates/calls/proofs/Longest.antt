@@ -1,8 +1,8 @@
 -- A line's text has a bound.
 use Prim.Native.Nat.{ℕ, _≤_}
-use mathlib.Core.Bool.{Bool, true, false, cond}
-use mathlib.Core.List.{List, []}
+use mathlib.Core.List.{List}
 use native.Mathlib.Omega.{arith}
+use borrow.Table.Steps.{cases}
 use lib.Dec.{eqb}
 use lib.ListN.{length, length-append}
 use Rattle.rules.specs.declared.Schedule.{Schedule}
@@ -10,9 +10,9 @@ use Rattle.rules.specs.declared.Frame.{Frame}
 use Rattle.rules.specs.declared.Frame.the-variants as frame
 use Rattle.rules.specs.declared.Line.{Line}
 use Rattle.rules.specs.declared.Line.the-variants.{Good, Bad}
-use Rattle.rules.specs.Calls.{Governor, byEvent, byProgram, byNone, Value, nothing, code, count, governor, counted, call}
+use Rattle.rules.specs.Calls.{byEvent, byProgram, byNone, Value, nothing, code, count, governor, counted, call}
 use Rattle.rules.specs.Frames.{lineOf, frameCall}
-use Rattle.rules.specs.Printed.{governorText, threeText, refusedText, codeText, askText, frameText, room, tellFrame, tellLine, tell}
+use Rattle.rules.specs.Printed.{refusedText, codeText, askText, frameText, room, tellFrame, tellLine, tell}
 use Rattle.text.specs.Texts.{mostText}
 use Rattle.text.proofs.Printing.{decimal-length, three-length, rows-length}
 use Rattle.calls.proofs.Said.{call-counted}
@@ -22,24 +22,17 @@ refused-length n = simp length-append (omega (arith, decimal-length 20 n))
 
 code-length : (t i : ℕ) (v : Value) → length (codeText t i v) ≤ mostText
 code-length t i nothing = omega arith
-code-length t i (code k) = by (eqb k 0)
-  where
-    by : (b : Bool) → length (cond b [] (threeText t i k)) ≤ mostText
-    by true = omega arith
-    by false = omega (arith, three-length t i k)
+code-length t i (code k) = cases (eqb k 0) (λ e. rw e (omega arith)) (λ e. rw e (omega (arith, three-length t i k)))
 code-length t i (count n) = omega arith
 code-length t i (governor g) = omega arith
-
-governor-length : (c : ℕ) (g : Governor) → length (governorText c g) ≤ mostText
-governor-length c (byEvent i) = simp length-append (omega (arith, decimal-length 20 c, decimal-length 20 i))
-governor-length c (byProgram p) = simp length-append (omega (arith, decimal-length 20 c, decimal-length 20 p))
-governor-length c byNone = simp length-append (omega (arith, decimal-length 20 c))
 
 ask-length : (c : ℕ) (v : Value) → length (askText c v) ≤ mostText
 ask-length c nothing = omega arith
 ask-length c (code k) = omega arith
 ask-length c (count n) = omega arith
-ask-length c (governor g) = governor-length c g
+ask-length c (governor (byEvent i)) = simp length-append (omega (arith, decimal-length 20 c, decimal-length 20 i))
+ask-length c (governor (byProgram p)) = simp length-append (omega (arith, decimal-length 20 c, decimal-length 20 p))
+ask-length c (governor byNone) = simp length-append (omega (arith, decimal-length 20 c))
 
 frame-length : (s : Schedule) (f : Frame) → length (frameText (s .clock) f (call s (frameCall f room))) ≤ mostText
 frame-length s (frame.Event v) = code-length (s .clock) _ (call s (frameCall (frame.Event v) room) .value)
@@ -55,10 +48,6 @@ pub tell-length : (s : Schedule) (l : List ℕ) → length (tell s l .text) ≤ 
 unfolding tell tellFrame
 tell-length s l = by (lineOf l)
   where
-    pick : (b : Bool) (x y : List ℕ) → length x ≤ mostText → length y ≤ mostText → length (cond b x y) ≤ mostText
-    pick true x y h k = h
-    pick false x y h k = k
-
     by : (x : Line) → length (tellLine s x .text) ≤ mostText
-    by (Good f) = let o = call s (frameCall f room) in pick (eqb (o .number) 0) (frameText (s .clock) f o) (refusedText (o .number)) (frame-length s f) (refused-length (o .number))
+    by (Good f) = let o = call s (frameCall f room) in cases (eqb (o .number) 0) (λ e. rw e (frame-length s f)) (λ e. rw e (refused-length (o .number)))
     by Bad = refused-length 1

@@ -1,27 +1,62 @@
--- An id's place among the slots, and the slots with an event put in or marked there: they are the list with that event put in or marked.
+-- The place of an id tells what is held under it; and slots with an event put in or marked at its place.
 use mathlib.Core.Path.{_≡_, refl, sym, ap, _∙_}
 use mathlib.Core.Logic.{inl, inr}
-use mathlib.Core.Bool.{true}
+use mathlib.Core.Bool.{Bool, true, false, cond}
 use mathlib.Core.List.{List, [], _∷_, _++_, map, map-append}
-use mathlib.Core.Option.{none}
-use Prim.Native.Nat.{ℕ, zero, suc, _+_, _-_, _<_, _≤_}
+use mathlib.Core.Option.{none, some}
+use Prim.Native.Nat.{ℕ, zero, suc, _<_, _+_, _-_, _≤_}
 use native.Mathlib.Omega.{arith}
 use borrow.Author.Tests.{eq-eqb, ne-eqb, lt-ltb, le-ltb}
-use lib.ListN.{length, getD, take, drop, set, length-append, length-drop}
+use lib.ListN.{getD, length, take, drop, set, length-append, length-drop, take-append-drop}
 use lib.Seq.{take-take, take-at, take-set-lt, length-take-le}
 use Rattle.rules.specs.declared.Entry.{Entry}
-use Rattle.rules.specs.Lists.{insert, All, Pairwise}
+use Rattle.rules.specs.Lists.{All, Pairwise, insert}
 use Rattle.rules.specs.Records.{noEntry}
 use Rattle.rules.specs.Refusals.{find}
 use Rattle.rules.specs.Calls.{entryId, mark}
+use Rattle.rules.proofs.SoundState.{ById}
 use Rattle.rules.proofs.ListLaws.{map-same}
 use Rattle.rules.proofs.Kept.{find-none}
-use Rattle.rules.proofs.SoundState.{ById}
+use Rattle.calls.specs.Found.{PlaceOf, Found, widened}
 use Rattle.calls.specs.Slots.{entryOf}
-use Rattle.calls.specs.Found.{PlaceOf, widened}
-use Rattle.calls.proofs.Places.{behind}
-use Rattle.calls.proofs.Reached.{at-in}
-use Rattle.calls.proofs.Slots.{in-slots, slot-at}
+use Rattle.calls.proofs.Slots.{at-in, in-slots, slot-at}
+
+-- What is held under an id.
+
+module _ (i : ℕ) where
+  -- the place as those behind the first entry have it
+  pub behind : (x : Entry) (xs : List Entry) (k : ℕ) → PlaceOf (x ∷ xs) i (suc k) → PlaceOf xs i k
+  behind x xs k p = record {
+    within = omega (arith, p .within);
+    below = λ j l. p .below (suc j) (omega arith);
+    from = λ l. p .from (omega arith);
+  }
+
+  find-above : (hs : List Entry) → All (λ h. i < entryId h) hs → find i hs ≡ none
+  unfolding find
+  find-above [] a = refl
+  find-above (x ∷ xs) a = rw (ne-eqb (entryId x) i (λ e. let l = a x (inl refl) in omega arith)) (find-above xs (λ h m. a h (inr m)))
+
+  -- so it is found there or nowhere
+  pub find-at : (hs : List Entry) (at : ℕ) (b : Bool) → Pairwise ById hs → Found hs i (record { at = at; held = b })
+      → find i hs ≡ cond b (some (getD hs at noEntry)) none
+  unfolding find
+  find-at [] at true s p = absurd (omega (arith, p .held refl .0))
+  find-at [] at false s p = refl
+  find-at (x ∷ xs) zero true s p = rw (eq-eqb (entryId x) i (p .held refl .1))
+  find-at (x ∷ xs) zero false s p =
+      let l = p .placed .from (omega arith) in
+      let d = p .free refl (omega arith) in
+      rw (ne-eqb (entryId x) i d) (find-above xs (λ h m. let o = s .0 h m in omega arith))
+  find-at (x ∷ xs) (suc k) b s p =
+      let l = p .placed .below 0 (omega arith) in
+      rw (ne-eqb (entryId x) i (λ e. omega arith)) (find-at xs k b (s .1) (record {
+        placed = behind x xs k (p .placed);
+        held = λ e. (omega (arith, p .held e .0), p .held e .1);
+        free = λ e m. p .free e (omega arith);
+      }))
+
+-- An event put in, or marked.
 
 -- a place by the events in the slots
 pub placed-in : (w : List (List ℕ)) (n i at : ℕ) → n ≤ length w → at ≤ n
@@ -35,17 +70,13 @@ placed-in w n i at r h b f =
     }
 
 -- an entry goes in at the place of its id
-insert-at : (a : Entry) (hs : List Entry) (at : ℕ) → PlaceOf hs (entryId a) at → All (λ h. entryId h ≡ entryId a → ⊥) hs
-    → insert entryId a hs ≡ take at hs ++ (a ∷ drop at hs)
-insert-at a [] zero p n = refl
-insert-at a [] (suc k) p n = absurd (omega (arith, p .within))
-insert-at a (x ∷ xs) zero p n =
-    let l = p .from (omega arith) in
-    let d = n x (inl refl) in
-    rw (lt-ltb (entryId a) (entryId x) (omega arith))
-insert-at a (x ∷ xs) (suc k) p n =
-    let l = p .below 0 (omega arith) in
-    rw (le-ltb (entryId a) (entryId x) (omega arith)) (ap (_∷_ x) (insert-at a xs k (behind (entryId a) x xs k p) (λ h m. n h (inr m))))
+insert-at : (a : Entry) (front back : List Entry) → PlaceOf (front ++ back) (entryId a) (length front) → All (λ h. entryId h ≡ entryId a → ⊥) (front ++ back)
+    → insert entryId a (front ++ back) ≡ front ++ (a ∷ back)
+insert-at a [] [] p n = refl
+insert-at a [] (x ∷ back) p n = let d = n x (inl refl) in rw (lt-ltb (entryId a) (entryId x) (omega (arith, p .from (omega arith))))
+insert-at a (x ∷ front) back p n =
+    rw (le-ltb (entryId a) (entryId x) (omega (arith, p .below 0 (omega arith))))
+    (ap (_∷_ x) (insert-at a front back (behind (entryId a) x (front ++ back) (length front) p) (λ h m. n h (inr m))))
 
 -- an entry under another id is not marked
 unmarked : (i : ℕ) (h : Entry) → (entryId h ≡ i → ⊥) → mark i h ≡ h
@@ -55,34 +86,20 @@ unmarked i h d = rw (ne-eqb (entryId h) i d)
 abbrev pub stopped : Entry → Entry
 stopped h = record { event = h .event; begins = h .begins; held = 0; cancelled = true }
 
-mark-own : (h : Entry) → mark (entryId h) h ≡ stopped h
-mark-own h = rw (eq-eqb (entryId h) (entryId h) refl)
-
 -- one entry is marked, since the ids differ
 mark-at : (hs : List Entry) (at : ℕ) → Pairwise ById hs → at < length hs
-    → map (mark (entryId (getD hs at noEntry))) hs ≡ set hs at (mark (entryId (getD hs at noEntry)) (getD hs at noEntry))
+    → map (mark (entryId (getD hs at noEntry))) hs ≡ set hs at (stopped (getD hs at noEntry))
 mark-at [] at s l = absurd (omega arith)
-mark-at (x ∷ xs) zero s l = ap (_∷_ (mark (entryId x) x)) (map-same (mark (entryId x)) xs (λ h m. unmarked (entryId x) h (λ e. let o = s .0 h m in omega arith)))
+mark-at (x ∷ xs) zero s l =
+    rw (eq-eqb (entryId x) (entryId x) refl, map-same (mark (entryId x)) xs (λ h m. unmarked (entryId x) h (λ e. omega (arith, s .0 h m))))
 mark-at (x ∷ xs) (suc k) s l =
     let o = s .0 (getD xs k noEntry) (at-in noEntry xs k (omega arith)) in
     rw (unmarked (entryId (getD xs k noEntry)) x (λ e. omega arith)) (ap (_∷_ x) (mark-at xs k (s .1) (omega arith)))
 
--- a list mapped, cut before and behind a place, and with another element there
-module _ {A B : Type 0} (f : A → B) where
-  map-take : (n : ℕ) (l : List A) → map f (take n l) ≡ take n (map f l)
-  map-take zero l = refl
-  map-take (suc n) [] = refl
-  map-take (suc n) (x ∷ xs) = ap (_∷_ (f x)) (map-take n xs)
-
-  map-drop : (n : ℕ) (l : List A) → map f (drop n l) ≡ drop n (map f l)
-  map-drop zero l = refl
-  map-drop (suc n) [] = refl
-  map-drop (suc n) (x ∷ xs) = map-drop n xs
-
-  map-set : (l : List A) (i : ℕ) (a : A) → map f (set l i a) ≡ set (map f l) i (f a)
-  map-set [] i a = refl
-  map-set (x ∷ xs) zero a = refl
-  map-set (x ∷ xs) (suc i) a = ap (_∷_ (f x)) (map-set xs i a)
+map-set : {A B : Type 0} (f : A → B) (l : List A) (i : ℕ) (a : A) → map f (set l i a) ≡ set (map f l) i (f a)
+map-set f [] i a = refl
+map-set f (x ∷ xs) zero a = refl
+map-set f (x ∷ xs) (suc i) a = ap (_∷_ (f x)) (map-set f xs i a)
 
 module _ (w : List (List ℕ)) (n : ℕ) where
   abbrev hs : List Entry
@@ -103,20 +120,16 @@ module _ (w : List (List ℕ)) (n : ℕ) where
   pub put-in : n < length w → (a : Entry) (x : List ℕ) (at : ℕ) → entryOf x ≡ a → PlaceOf hs (entryId a) at → find (entryId a) hs ≡ none
       → map entryOf (take (n + 1) (widened w n at x)) ≡ insert entryId a hs
   put-in l a x at e p f =
-      let long = in-slots w n (omega arith) in
-      let short : at ≤ n = omega (arith, p .within) in
-      rw (
-        take-at (take at w ++ (x ∷ drop at (take n w))) (drop (n + 1) w) (n + 1) (in-front l x at short),
-        map-append,
-        ← take-take at n w short,
-        map-take entryOf at (take n w),
-        map-drop entryOf at (take n w),
-        e,
-      )
-      (sym (insert-at a hs at p (find-none (entryId a) hs f)))
+      let short : at ≤ n = omega (arith, p .within, in-slots w n (omega arith)) in
+      let front = map entryOf (take at (take n w)) in
+      let back = map entryOf (drop at (take n w)) in
+      let all : hs ≡ front ++ back = rw (← map-append entryOf (take at (take n w)) (drop at (take n w)), take-append-drop) in
+      let size : length front ≡ at = in-slots (take n w) at (omega (arith, length-take-le n w (omega arith))) in
+      rw (take-at (take at w ++ (x ∷ drop at (take n w))) (drop (n + 1) w) (n + 1) (in-front l x at short), map-append, ← take-take at n w short, e, all)
+      (sym (insert-at a front back (rw size (rw all at p)) (find-none (entryId a) (front ++ back) (rw all at f))))
 
   -- a slot with the event in it stopped is the list with that event marked
   pub put-over : n ≤ length w → (at : ℕ) (x : List ℕ) → at < n → Pairwise ById hs → entryOf x ≡ stopped (getD hs at noEntry)
       → map entryOf (take n (set w at x)) ≡ map (mark (entryId (getD hs at noEntry))) hs
   put-over r at x l s e =
-      rw (take-set-lt n w at x l, map-set entryOf (take n w) at x, e ∙ sym (mark-own (getD hs at noEntry))) (sym (mark-at hs at s (omega (arith, in-slots w n r))))
+      rw (take-set-lt n w at x l, map-set entryOf (take n w) at x, e) (sym (mark-at hs at s (omega (arith, in-slots w n r))))

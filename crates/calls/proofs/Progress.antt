@@ -1,54 +1,45 @@
 -- A run into a buffer that any text fits takes at least one line.
 use mathlib.Core.Path.{_≡_, refl, sym, ap, _∙_}
-use Prim.Native.Nat.{ℕ, suc, _-_, _≤_}
-use mathlib.Core.Bool.{Bool, true, false, cond}
+use Prim.Native.Nat.{ℕ, _-_, _≤_}
+use mathlib.Core.Bool.{true}
 use mathlib.Core.List.{List, [], _∷_}
 use native.Mathlib.Omega.{arith}
 use borrow.Author.Tests.{le-leb, leb-true}
+use borrow.Table.Steps.{cases}
 use lib.Dec.{leb}
 use lib.ListN.{length, length-append}
 use Rattle.rules.specs.declared.Schedule.{Schedule}
 use Rattle.rules.specs.Sound.{sound}
 use Rattle.rules.specs.Calls.{valueOf, counted}
 use Rattle.rules.specs.Printed.{tell}
-use Rattle.rules.proofs.Tests.{both}
 use Rattle.text.specs.Texts.{mostText}
 use Rattle.calls.specs.Lines.{endedOf, runs, RunOutcome, ranOf, ranInto, runOutcome}
 use Rattle.calls.specs.declared.Ran.{Ran}
 use Rattle.calls.proofs.Longest.{tell-length}
-use Rattle.calls.proofs.Running.{after, sound-told, runs-within}
+use Rattle.calls.proofs.Running.{sound-told, runs-within}
 
 -- what a run writes fits
 pub runs-fits : (room : ℕ) (s : Schedule) (ls : List (List ℕ)) → length (runs room s ls .text) ≤ room
 unfolding runs
 runs-fits room s [] = omega arith
-runs-fits room s (l ∷ ls) = by (leb mostText room) refl (runs-fits (room - length (tell s l .text)) (tell s l .state) ls)
-  where
-    by : (b : Bool) → leb mostText room ≡ b → length (runs (room - length (tell s l .text)) (tell s l .state) ls .text) ≤ room - length (tell s l .text)
-        → length (cond b (after (suc (length l)) (tell s l .text) (runs (room - length (tell s l .text)) (tell s l .state) ls)) (record { state = s; read = 0; text = [] }) .text) ≤ room
-    by true e h = simp length-append (omega (arith, leb-true mostText room e, tell-length s l))
-    by false e h = omega arith
+runs-fits room s (l ∷ ls) =
+    let o = tell s l in
+    let rest = runs-fits (room - length (o .text)) (o .state) ls in
+    cases (leb mostText room) (λ e. rw e (simp length-append (omega (arith, leb-true mostText room e, tell-length s l)))) (λ e. rw e (omega arith))
 
 -- a run that takes nothing has no line
 pub runs-some : (room : ℕ) (s : Schedule) → mostText ≤ room → (ls : List (List ℕ)) → runs room s ls .read ≡ 0 → ls ≡ []
 unfolding runs
 runs-some room s h [] z = refl
-runs-some room s h (l ∷ ls) z = by (leb mostText room) (le-leb mostText room h) z
-  where
-    by : (b : Bool) → b ≡ true → cond b (after (suc (length l)) (tell s l .text) (runs (room - length (tell s l .text)) (tell s l .state) ls)) (record { state = s; read = 0; text = [] }) .read ≡ 0 → (l ∷ ls) ≡ []
-    by true e z = absurd (omega arith)
-    by false e z = both false e refl
+runs-some room s h (l ∷ ls) z = absurd (omega (arith, rw (le-leb mostText room h) at z))
 
 -- a run leaves a sound schedule
 pub runs-sound : (room : ℕ) (s : Schedule) → sound s ≡ true → (ls : List (List ℕ)) → sound (runs room s ls .state) ≡ true
 unfolding runs
 runs-sound room s e [] = e
-runs-sound room s e (l ∷ ls) = by (leb mostText room) (runs-sound (room - length (tell s l .text)) (tell s l .state) (sound-told s e l) ls)
-  where
-    by : (b : Bool) → sound (runs (room - length (tell s l .text)) (tell s l .state) ls .state) ≡ true
-        → sound (cond b (after (suc (length l)) (tell s l .text) (runs (room - length (tell s l .text)) (tell s l .state) ls)) (record { state = s; read = 0; text = [] }) .state) ≡ true
-    by true h = h
-    by false h = e
+runs-sound room s e (l ∷ ls) =
+    let o = tell s l in
+    cases (leb mostText room) (λ t. rw t (runs-sound (room - length (o .text)) (o .state) (sound-told s e l) ls)) (λ t. rw t e)
 
 -- what a caller that lends a buffer knows of a run on a sound schedule
 pub record Went (lines out : List ℕ) (r : Ran) : Type 0 where

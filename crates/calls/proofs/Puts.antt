@@ -1,24 +1,20 @@
 -- Bytes written one after the other, and rows.
 use mathlib.Core.Path.{_≡_, refl, sym, ap, _∙_, subst}
-use Prim.Native.Nat.{ℕ, zero, suc, _+_, _-_, _*_, _/_, _%_, _<_, _≤_}
-use mathlib.Core.Bool.{false}
+use Prim.Native.Nat.{ℕ, suc, _+_, _-_, _*_, _/_, _%_, _<_, _≤_}
 use mathlib.Core.List.{List, [], _∷_, _++_, append-assoc, append-nil}
 use native.Mathlib.Nat.{mod-eq-of-lt}
-use native.Mathlib.Numerals.{add-one}
 use native.Mathlib.Omega.{arith}
-use borrow.Author.Tests.{eq-eqb, ne-eqb}
-use lib.ListN.{length, take, drop, getD, set, length-set, length-append}
+use lib.ListN.{length, take, drop, set, length-set, length-append}
 use lib.Seq.{take-suc-set, take-at, length-take-le}
-use Rattle.rules.specs.Records.{has, idSize, mostRows}
+use Rattle.rules.specs.Records.{idSize}
 use Rattle.rules.specs.Rows.{Row}
 use Rattle.rules.specs.Bytes.{big, flat, rowBytes, bytes, rowSize}
 use Rattle.rules.proofs.Numbers.{big-length}
 use Rattle.rules.proofs.Over.{over-size}
 use Rattle.rules.proofs.RowBytes.{bytes-append}
-use Rattle.rules.proofs.Tests.{both}
 use Rattle.octets.specs.Octets.{putAt}
 use Rattle.octets.proofs.Fits.{put-inside}
-use Rattle.calls.specs.Columns.{Gives, rowIf, codedRows, Put, Written}
+use Rattle.calls.specs.Written.{Put, Written}
 
 module _ {l : List ℕ} {at : ℕ} where
   pub none : Put l at [] l
@@ -91,43 +87,3 @@ row-put {l} {m} {n} b t i k s h p q =
 pub row-size : (t i k : ℕ) → length (rowBytes (record { time = t; id = i; code = k })) ≡ rowSize
 unfolding rowBytes
 row-size t i k = simp (length-append, big-length)
-
--- a row for a code that is given, and none for another
-pub row-given : {l n : List ℕ} (at t i c k : ℕ) → c ≡ k → Put l (at * rowSize) (rowBytes (record { time = t; id = i; code = k })) n → Written l at n (at + 1) (rowIf t k i c)
-row-given {l} {n} at t i c k e p = rw (eq-eqb c k e) (one-row l n at (record { time = t; id = i; code = k }) (row-size t i k) p)
-
-pub row-not : (l : List ℕ) (at t i c k : ℕ) → (c ≡ k → ⊥) → Written l at l at (rowIf t k i c)
-row-not l at t i c k e = rw (ne-eqb c k e) (no-row l at)
-
-pub row-fits : (at t i c k : ℕ) → c ≡ k → at + length (rowIf t k i c) ≤ mostRows → at < mostRows
-row-fits at t i c k e h = omega (arith, rw (eq-eqb c k e) at h)
-
--- Rows event by event.
-
-module _ (t k : ℕ) (ids codes : List ℕ) where
-  coded-more : (n : ℕ) → length (codedRows t k (suc n) ids codes) ≡ length (codedRows t k n ids codes) + length (rowIf t k (getD ids n 0) (getD codes n 0))
-  unfolding codedRows
-  coded-more n = length-append (codedRows t k n ids codes) (rowIf t k (getD ids n 0) (getD codes n 0))
-
-  coded-grows : (i d : ℕ) → length (codedRows t k i ids codes) ≤ length (codedRows t k (d + i) ids codes)
-  coded-grows i zero = let e : 0 + i ≡ i = omega arith in rw e (omega arith)
-  coded-grows i (suc d) = let e : suc d + i ≡ suc (d + i) = omega arith in rw e (omega (arith, coded-grows i d, coded-more (d + i)))
-
-  -- one more fits where all do
-  pub coded-fits : (from at i n : ℕ) → i < n → at ≡ from + length (codedRows t k i ids codes) → from + length (codedRows t k n ids codes) ≤ mostRows
-      → at + length (rowIf t k (getD ids i 0) (getD codes i 0)) ≤ mostRows
-  coded-fits from at i n l e f =
-      let d : n - suc i + suc i ≡ n = omega arith in
-      omega (arith, coded-more i, rw d at (coded-grows (suc i) (n - suc i)))
-
-  pub coded-next : {old new next : List ℕ} {from at to : ℕ} (i : ℕ) → Written old from new at (codedRows t k i ids codes)
-      → Written new at next to (rowIf t k (getD ids i 0) (getD codes i 0)) → Written old from next to (codedRows t k (i + 1) ids codes)
-  unfolding codedRows
-  coded-next i p q = rw (add-one i) (rows-then p q)
-
-  -- a code that is not among those given has no row
-  pub coded-none : (n given : ℕ) → Gives n codes given → has given k ≡ false → codedRows t k n ids codes ≡ []
-  unfolding codedRows
-  coded-none zero given g e = refl
-  coded-none (suc n) given g e =
-      rw (coded-none n given (λ i l. g i (omega arith)) e, ne-eqb (getD codes n 0) k (λ q. both _ (g n (omega arith)) (ap (has given) q ∙ e)))

@@ -1,10 +1,11 @@
 -- The run over lines: what is known before each line, and what a line adds.
 use mathlib.Core.Path.{_≡_, refl, sym, ap, _∙_}
 use Prim.Native.Nat.{ℕ, suc, _+_, _-_, _<_, _≤_}
-use mathlib.Core.Bool.{Bool, true, false, cond}
+use mathlib.Core.Bool.{true}
 use mathlib.Core.List.{List, [], _∷_, _++_, append-assoc, append-nil}
 use native.Mathlib.Omega.{arith}
 use borrow.Author.Tests.{le-leb, lt-leb}
+use borrow.Table.Steps.{cases}
 use lib.Dec.{leb, eqb}
 use lib.ListN.{length, take, drop, length-append, length-drop, drop-of-length-le}
 use lib.Seq.{drop-drop, length-take-le}
@@ -135,24 +136,18 @@ total (l ∷ ls) = suc (length l) + total ls
 total-ended : (l : List ℕ) → total (endedOf l) ≤ length l
 unfolding endedOf total
 total-ended [] = omega arith
-total-ended (b ∷ bs) = by (eqb b 10) (endedOf bs) (total-ended bs)
+total-ended (b ∷ bs) = cases (eqb b 10) (λ e. rw e (omega (arith, total-ended bs))) (λ e. rw e (by (endedOf bs) (total-ended bs)))
   where
-    by : (t : Bool) (ls : List (List ℕ)) → total ls ≤ length bs → total (cond t ([] ∷ ls) (longer b ls)) ≤ suc (length bs)
-    by true ls h = omega arith
-    by false [] h = omega arith
-    by false (l ∷ ls) h = omega arith
+    by : (ls : List (List ℕ)) → total ls ≤ length bs → total (longer b ls) ≤ suc (length bs)
+    by [] h = omega arith
+    by (l ∷ ls) h = omega arith
 
 runs-total : (room : ℕ) (s : Schedule) (ls : List (List ℕ)) → runs room s ls .read ≤ total ls
 unfolding runs total
 runs-total room s [] = omega arith
 runs-total room s (l ∷ ls) =
     let o = tell s l in
-    by (leb mostText room) (runs-total (room - length (o .text)) (o .state) ls)
-  where
-    by : (t : Bool) → runs (room - length (tell s l .text)) (tell s l .state) ls .read ≤ total ls
-        → cond t (after (suc (length l)) (tell s l .text) (runs (room - length (tell s l .text)) (tell s l .state) ls)) (record { state = s; read = 0; text = [] }) .read ≤ suc (length l) + total ls
-    by true h = omega arith
-    by false h = omega arith
+    cases (leb mostText room) (λ e. rw e (omega (arith, runs-total (room - length (o .text)) (o .state) ls))) (λ e. rw e (omega arith))
 
 -- a run takes no more than there is
 pub runs-within : (room : ℕ) (s : Schedule) (l : List ℕ) → runs room s (endedOf l) .read ≤ length l

@@ -1,28 +1,27 @@
 -- The text of a line: what a frame's call gives, and how many rows there are in it at the most.
 use mathlib.Core.Path.{_≡_, refl, sym, ap, ap₂, _∙_}
 use Prim.Native.Nat.{ℕ, zero, suc, _+_, _*_, _<_, _≤_}
-use mathlib.Core.Bool.{Bool, true, false, cond, not, _&&_}
+use mathlib.Core.Bool.{true, cond, not, _&&_}
 use mathlib.Core.List.{List, [], _∷_, _++_}
 use mathlib.Core.Option.{Option, none, some}
 use native.Mathlib.Omega.{arith}
 use borrow.Author.Tests.{not-false, eq-eqb, le-leb}
+use borrow.Table.Steps.{cases}
 use lib.Dec.{leb, eqb}
 use lib.ListN.{length, take, getD}
 use lib.Seq.{getD-take}
 use Rattle.rules.specs.declared.Entry.{Entry}
-use Rattle.rules.specs.declared.Event.{Event}
-use Rattle.rules.specs.declared.Id.{Id}
 use Rattle.rules.specs.declared.Schedule.{Schedule}
 use Rattle.rules.specs.declared.Frame.{Frame}
 use Rattle.rules.specs.declared.Frame.the-variants as frame
-use Rattle.rules.specs.Records.{idOf, has, view, idNumber, mostRows}
+use Rattle.rules.specs.Records.{idOf, has, view, mostRows}
 use Rattle.rules.specs.Bytes.{read, rowSize, rowsSize}
 use Rattle.rules.specs.Sound.{sound}
 use Rattle.rules.specs.Refusals.{find}
-use Rattle.rules.specs.Calls.{program, event, cancellation, question, holder, Value, Ranked, Call, bare, entryId, addProgram, deliver, cancel, setClock, ask, list, cancelCode, received, bestDefault, defaultFor, holderIn, answerFor, counted, numberOf, valueOf, does, refusal, accepts, accepted, refused, Outcome, call}
+use Rattle.rules.specs.Calls.{Bare, program, event, cancellation, question, Value, Ranked, Call, bare, addProgram, deliver, cancel, setClock, ask, list, cancelCode, received, bestDefault, defaultFor, holderIn, answerFor, counted, numberOf, valueOf, does, refusal, accepts, Outcome, call}
 use Rattle.rules.specs.declared.Line.the-variants.{Good, Bad}
 use Rattle.rules.specs.Frames.{frameCall}
-use Rattle.rules.specs.Printed.{refusedText, threeText, codeText, rowsText, askText, frameText, room, tellFrame}
+use Rattle.rules.specs.Printed.{refusedText, threeText, rowsText, frameText, room, tellFrame}
 use Rattle.rules.proofs.Tests.{first-not}
 use Rattle.rules.proofs.SoundState.{sound-view}
 use Rattle.rules.proofs.Bound.{few-rows}
@@ -60,10 +59,17 @@ module _ (a b : List ℕ) where
 
 -- A frame's call.
 
+-- the text of a call that is lent nothing hangs on its value alone
+value-text : (clock : ℕ) (f : Frame) {c : Bare} → frameCall f room ≡ bare c → (o p : Outcome) → o .value ≡ p .value → frameText clock f o ≡ frameText clock f p
+value-text clock (frame.Event e) is o p q = rw q
+value-text clock (frame.Cancel i) is o p q = rw q
+value-text clock (frame.Clock t) is o p q = let z : _≡_ {A = ℕ} 0 1 = cc in absurd (omega arith)
+value-text clock (frame.Program n i d) is o p q = refl
+value-text clock (frame.Ask c) is o p q = rw q
+
 module _ {s : Schedule} {r : Acted} {w : List (List ℕ)} {rows : List ℕ} where
-  -- a call whose text hangs on its value alone
-  on : (f : Frame) (T : ℕ → Value → List ℕ) → ((clock : ℕ) (o : Outcome) → frameText clock f o ≡ T clock (o .value)) → length rows ≡ rowsSize → Acts r w [] (call s (frameCall f room)) → ActsOn s f r w rows
-  on f T is long a =
+  pub on-bare : {f : Frame} {c : Bare} → frameCall f room ≡ bare c → length rows ≡ rowsSize → Acts r w [] (call s (frameCall f room)) → ActsOn s f r w rows
+  on-bare {f} is long a =
       let v = ap (λ (o : Outcome). o .value) (a .outcome) in
       record {
         used = a .used;
@@ -71,20 +77,8 @@ module _ {s : Schedule} {r : Acted} {w : List (List ℕ)} {rows : List ℕ} wher
         number = ap (λ (o : Outcome). o .number) (a .outcome);
         value = v;
         state = ap (λ (o : Outcome). o .state) (a .outcome);
-        text = λ clock o p q. is clock o ∙ ap (T clock) (p ∙ v) ∙ sym (is clock (call s (frameCall f room)));
+        text = λ clock o p q. value-text clock f is o (call s (frameCall f room)) (p ∙ v);
       }
-
-  pub on-event : (e : Event) → length rows ≡ rowsSize → Acts r w [] (call s (deliver e)) → ActsOn s (frame.Event e) r w rows
-  on-event e = on (frame.Event e) (λ clock. codeText clock (idOf e)) (λ clock o. refl)
-
-  pub on-cancel : (i : Id) → length rows ≡ rowsSize → Acts r w [] (call s (cancel (idNumber i))) → ActsOn s (frame.Cancel i) r w rows
-  on-cancel i = on (frame.Cancel i) (λ clock. codeText clock (idNumber i)) (λ clock o. refl)
-
-  pub on-program : (n p d : ℕ) → length rows ≡ rowsSize → Acts r w [] (call s (addProgram n p d)) → ActsOn s (frame.Program n p d) r w rows
-  on-program n p d = on (frame.Program n p d) (λ clock v. []) (λ clock o. refl)
-
-  pub on-ask : (c : ℕ) → length rows ≡ rowsSize → Acts r w [] (call s (ask c)) → ActsOn s (frame.Ask c) r w rows
-  on-ask c = on (frame.Ask c) (λ clock. askText c) (λ clock o. refl)
 
   pub on-clock : (t : ℕ) → Reads s t r w rows → ActsOn s (frame.Clock t) r w rows
   on-clock t a = record {
@@ -101,11 +95,7 @@ module _ {s : Schedule} {r : Acted} {w : List (List ℕ)} {rows : List ℕ} wher
 -- the count of a call that was accepted, on a schedule that is sound then, or of none
 from-done : (s : Schedule) (c : Call) → (sound s ≡ true → counted (does (view s) c .value) ≤ mostRows) → counted (call s c .value) ≤ mostRows
 unfolding call refusal
-from-done s c h = by (accepts s c) refl
-  where
-    by : (t : Bool) → accepts s c ≡ t → counted (cond t (accepted (does (view s) c)) (refused s c) .value) ≤ mostRows
-    by true e = h (not-false (sound s) (first-not 2 (not (sound s)) _ refl e .0))
-    by false e = omega arith
+from-done s c h = cases (accepts s c) (λ e. rw e (h (not-false (sound s) (first-not 2 (not (sound s)) _ refl e .0)))) (λ e. rw e (omega arith))
 
 none-counted : (o : Option Entry) → counted (received o) ≤ mostRows
 none-counted none = omega arith
@@ -113,11 +103,7 @@ none-counted (some h) = omega arith
 
 cancel-counted : (o : Option Entry) → counted (cancelCode o) ≤ mostRows
 cancel-counted none = omega arith
-cancel-counted (some h) = by (h .cancelled)
-  where
-    by : (t : Bool) → counted (cancelCode (some (record { event = h .event; begins = h .begins; held = h .held; cancelled = t }))) ≤ mostRows
-    by true = omega arith
-    by false = omega arith
+cancel-counted (some h) = cases (h .cancelled) (λ e. rw e (omega arith)) (λ e. rw e (omega arith))
 
 default-counted : (q : Option Ranked) → counted (defaultFor q) ≤ mostRows
 default-counted none = omega arith
@@ -126,11 +112,7 @@ default-counted (some q) = omega arith
 holder-counted : (c : ℕ) (hs : List Entry) (v : Value) → counted v ≤ mostRows → counted (holderIn c hs v) ≤ mostRows
 unfolding holderIn
 holder-counted c [] v h = h
-holder-counted c (x ∷ hs) v h = by (has (x .held) c) (holder-counted c hs v h)
-  where
-    by : (t : Bool) → counted (holderIn c hs v) ≤ mostRows → counted (cond t (holder (entryId x)) (holderIn c hs v)) ≤ mostRows
-    by true g = omega arith
-    by false g = g
+holder-counted c (x ∷ hs) v h = cases (has (x .held) c) (λ e. rw e (omega arith)) (λ e. rw e (holder-counted c hs v h))
 
 -- no call counts more than there can be rows: held events are fewer
 pub call-counted : (s : Schedule) (c : Call) → counted (call s c .value) ≤ mostRows

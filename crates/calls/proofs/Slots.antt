@@ -1,16 +1,41 @@
--- What stands in the slots, and the schedule that they are.
-use mathlib.Core.Path.{_≡_, ap, _∙_, subst}
-use Prim.Native.Nat.{ℕ, _%_, _<_, _≤_}
-use mathlib.Core.List.{List, [], map}
+-- What stands at a place of a list; what stands in the slots, and the schedule that they are; and slots in use as entries by value.
+use mathlib.Core.Path.{_≡_, refl, sym, ap, _∙_, subst}
+use mathlib.Core.Logic.{inl, inr}
+use Prim.Native.Nat.{ℕ, zero, suc, _<_, _%_, _≤_, _+_, _-_}
+use mathlib.Core.List.{List, [], _∷_, map, _++_, map-append}
 use native.Mathlib.Omega.{arith}
-use lib.ListN.{length, getD, take, set, length-map, List·getD-append}
-use lib.Seq.{getD-take, length-take-le, getD-set-same, getD-set-other}
-use Rattle.rules.specs.Records.{noEntry, view}
-use Rattle.rules.proofs.SoundState.{Sound, view-pad, sound-view}
-use Rattle.calls.specs.declared.held.Head.{Head}
+use lib.ListN.{length, getD, take, set, length-map, List·getD-append, replicate}
+use lib.Seq.{getD-take, length-take-le, getD-set-same, getD-set-other, take-suc, take-suc-set, append-snoc, set-at}
+use mathlib.Core.Bool.{true}
+use native.Mathlib.Numerals.{add-one}
+use Rattle.rules.specs.Lists.{In}
+use Rattle.rules.specs.Records.{noEntry, view, mostEvents, pad}
 use Rattle.rules.specs.Holding.{withHolding}
-use Rattle.calls.specs.Slots.{idPlace, programPlace, controlsPlace, createdPlace, startPlace, durationPlace, randomizeStartPlace, randomizeDurationPlace, startDrawPlace, durationDrawPlace, beginsPlace, heldPlace, cancelledPlace, slotSize, values32, entryOf, slotState, scheduleOf, Ready}
-use Rattle.calls.proofs.Reached.{at-map}
+use Rattle.rules.specs.declared.Entry.{Entry}
+use Rattle.rules.specs.declared.Schedule.{Schedule}
+use Rattle.rules.specs.Sound.{sound}
+use Rattle.rules.proofs.SoundState.{Sound, view-pad, sound-view, pad-view}
+use Rattle.calls.specs.declared.held.Head.{Head}
+use Rattle.calls.specs.Slots.{idPlace, programPlace, controlsPlace, createdPlace, startPlace, durationPlace, randomizeStartPlace, randomizeDurationPlace, startDrawPlace, durationDrawPlace, beginsPlace, heldPlace, cancelledPlace, slotSize, values32, entryOf, slotState, scheduleOf, Ready, InUse, TakenApart}
+
+-- what stands at a place is in the list
+pub at-in : {A : Type 0} (d : A) (xs : List A) (k : ℕ) → k < length xs → In (getD xs k d) xs
+at-in d [] k l = absurd (omega arith)
+at-in d (x ∷ xs) zero l = inl refl
+at-in d (x ∷ xs) (suc k) l = inr (at-in d xs k (omega arith))
+
+-- and what is in it stands at a place
+pub in-at : {A : Type 0} (d : A) (xs : List A) (x : A) → In x xs → (k : ℕ) × (k < length xs) × (getD xs k d ≡ x)
+in-at d (y ∷ ys) x (inl e) = (0, omega arith, sym e)
+in-at d (y ∷ ys) x (inr m) = let r = in-at d ys x m in (suc (r .0), omega (arith, r .1), r .2)
+
+-- of a list mapped
+pub at-map : {A B : Type 0} (f : A → B) (d : A) (e : B) (xs : List A) (k : ℕ) → k < length xs → getD (map f xs) k e ≡ f (getD xs k d)
+at-map f d e [] k l = absurd (omega arith)
+at-map f d e (x ∷ xs) zero l = refl
+at-map f d e (x ∷ xs) (suc k) l = at-map f d e xs k (omega arith)
+
+-- Slots.
 
 module _ (w : List (List ℕ)) (n : ℕ) (fits : n ≤ length w) where
   pub in-slots : length (map entryOf (take n w)) ≡ n
@@ -59,3 +84,34 @@ module _ (slot : List ℕ) (l : length slot ≡ slotSize) where
         getD-set-same slot heldPlace m 0 (omega arith),
         e,
       )
+
+-- Entries by value.
+
+-- the first i slots as entries, and nothing in the places behind them
+abbrev pub laid : List (List ℕ) → ℕ → List Entry
+laid w i = map entryOf (take i w) ++ replicate (mostEvents - i) noEntry
+
+-- one slot more
+pub laid-more : (w : List (List ℕ)) (i : ℕ) → length w ≡ mostEvents → i < mostEvents → set (laid w i) i (entryOf (getD w i [])) ≡ laid w (i + 1)
+laid-more w i l h =
+    let next : mostEvents - i ≡ suc (mostEvents - suc i) = omega arith in
+    let new = entryOf (getD w i []) in
+    rw (next, add-one)
+    (set-at (map entryOf (take i w)) noEntry (replicate (mostEvents - suc i) noEntry) new i (in-slots w i (omega arith))
+    ∙ sym (append-snoc (map entryOf (take i w)) new (replicate (mostEvents - suc i) noEntry))
+    ∙ ap (λ z. z ++ replicate (mostEvents - suc i) noEntry) (sym (map-append entryOf (take i w) (getD w i [] ∷ [])) ∙ ap (map entryOf) (sym (take-suc w i [] (omega arith)))))
+
+-- all slots in use
+pub laid-all : (d : Head) (w : List (List ℕ)) → InUse (d .count) w
+    → record { clock = d .clock; count = d .count; programs = d .programs; entries = laid w (d .count) } ≡ scheduleOf d w
+laid-all d w u =
+    ap (λ n. record { clock = d .clock; count = n; programs = d .programs; entries = map entryOf (take (d .count) w) ++ replicate (mostEvents - n) noEntry }) (sym (in-slots w (d .count) (omega arith)))
+
+-- one event of a schedule more in its slot
+pub slot-more : (hs : List Entry) (w : List (List ℕ)) (i : ℕ) (x : List ℕ) (d : Entry) → i < length w → i < length hs → entryOf x ≡ getD hs i d
+    → map entryOf (take i w) ≡ take i hs → map entryOf (take (i + 1) (set w i x)) ≡ take (i + 1) hs
+slot-more hs w i x d l h e q = rw (add-one, take-suc-set w i x l, map-append, take-suc hs i d h, q, e)
+
+-- slots that have the events of a sound schedule are that schedule
+pub apart-of : (s : Schedule) → sound s ≡ true → (w : List (List ℕ)) → length w ≡ mostEvents → map entryOf (take (s .count) w) ≡ view s .entries → TakenApart s w
+apart-of s e w l q = record { size = l; same = ap (λ hs. pad (record { clock = s .clock; programs = s .programs; entries = hs })) q ∙ pad-view s e }

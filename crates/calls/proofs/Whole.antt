@@ -4,7 +4,8 @@ use Prim.Native.Nat.{ℕ, zero, suc, _+_, _-_, _<_, _≤_}
 use mathlib.Core.Bool.{Bool, true, false, cond}
 use mathlib.Core.List.{List, [], _∷_, _++_, append-assoc, append-nil}
 use native.Mathlib.Omega.{arith}
-use borrow.Author.Tests.{ltb-true, ltb-false, eqb-false, ne-eqb, le-leb}
+use borrow.Author.Tests.{ltb-true, ltb-false, eq-eqb, ne-eqb, le-leb}
+use borrow.Table.Steps.{cases}
 use lib.Dec.{leb, ltb, eqb}
 use lib.ListN.{length, take, drop, length-append}
 use lib.Seq.{drop-drop, length-take-le, take-all, take-append-seam}
@@ -12,7 +13,7 @@ use Rattle.rules.specs.declared.Schedule.{Schedule}
 use Rattle.rules.specs.Records.{fresh, pad}
 use Rattle.rules.specs.Lists.{over}
 use Rattle.rules.specs.Sound.{sound}
-use Rattle.rules.specs.Calls.{nothing, count}
+use Rattle.rules.specs.Calls.{count}
 use Rattle.rules.specs.Printed.{linesOf, lineFeed, tell, tellAll, output}
 use Rattle.rules.specs.Example.{exampleInput, exampleOutput}
 use Rattle.rules.proofs.SoundState.{sound-pad}
@@ -20,22 +21,17 @@ use Rattle.rules.proofs.SoundKept.{sound-fresh}
 use Rattle.rules.proofs.Evaluated.{worked-example}
 use Rattle.frame.proofs.ByKind.{long-line}
 use Rattle.text.specs.Texts.{mostText}
-use Rattle.calls.specs.Lines.{longer, endedOf, upTo, runs, ranInto, runOutcome}
+use Rattle.calls.specs.Lines.{longer, endedOf, upTo, runs, runOutcome}
 use Rattle.calls.specs.Whole.{wrote, afterLines, lastByte, Ended, Turn, cameIn, turns}
 use Rattle.calls.proofs.Ends.{ended-first, ended-none, up-to-within}
-use Rattle.calls.proofs.Running.{after, total}
+use Rattle.calls.proofs.Running.{total}
 use Rattle.calls.proofs.Progress.{runs-some, runs-sound}
 
 -- the first line of a text that has a line feed, and the lines after it
 lines-first : (t more : List ℕ) → upTo t < length t → linesOf (t ++ more) ≡ take (upTo t) t ∷ linesOf (drop (suc (upTo t)) t ++ more)
 unfolding linesOf upTo
 lines-first [] more h = absurd (omega arith)
-lines-first (b ∷ bs) more h = by (eqb b 10) refl (lines-first bs more)
-  where
-    by : (x : Bool) → eqb b 10 ≡ x → (upTo bs < length bs → linesOf (bs ++ more) ≡ take (upTo bs) bs ∷ linesOf (drop (suc (upTo bs)) bs ++ more))
-        → linesOf (b ∷ (bs ++ more)) ≡ take (upTo (b ∷ bs)) (b ∷ bs) ∷ linesOf (drop (suc (upTo (b ∷ bs))) (b ∷ bs) ++ more)
-    by true e ih = rw e
-    by false e ih = rw (e, ih (omega (arith, rw e at h)))
+lines-first (b ∷ bs) more h = cases (eqb b 10) (λ e. rw e) (λ e. rw (e, lines-first bs more (omega (arith, rw e at h))))
 
 -- a line that has ended is a line, and those after it are those of the rest
 record FirstLine (t l : List ℕ) (ls : List (List ℕ)) : Type 0 where
@@ -64,25 +60,15 @@ module _ (lines : List ℕ → List (List ℕ)) (first : (t l : List ℕ) (ls : 
   unfolding runs tellAll
   runs-step [] room s t e = refl
   runs-step (l ∷ ls) room s t e =
-      by (leb mostText room) (runs-step ls (room - length (tell s l .text)) (tell s l .state) (drop (suc (length l)) t) (first-line t l ls e .rest))
-    where
-      by : (x : Bool)
-          → let r = runs (room - length (tell s l .text)) (tell s l .state) ls in
-          tellAll (tell s l .state) (lines (drop (suc (length l)) t)) ≡ r .text ++ tellAll (r .state) (lines (drop (r .read) (drop (suc (length l)) t)))
-          → let r = cond x (after (suc (length l)) (tell s l .text) (runs (room - length (tell s l .text)) (tell s l .state) ls)) (record { state = s; read = 0; text = [] }) in
-          tellAll s (lines t) ≡ r .text ++ tellAll (r .state) (lines (drop (r .read) t))
-      by true ih = rw (first t l ls e, ih, drop-drop, append-assoc)
-      by false ih = refl
+      let o = tell s l in
+      let ih = runs-step ls (room - length (o .text)) (o .state) (drop (suc (length l)) t) (first-line t l ls e .rest) in
+      cases (leb mostText room) (λ x. rw (x, first t l ls e, ih, drop-drop, append-assoc)) (λ x. rw x)
 
   run-step : (s : Schedule) (t out : List ℕ) → tellAll s (lines t) ≡ wrote (runOutcome s t out) ++ tellAll (runOutcome s t out .state) (lines (drop (runOutcome s t out .read) t))
   unfolding runOutcome
-  run-step s t out = by (sound s)
-    where
-      by : (x : Bool)
-          → let r = cond x (ranInto (runs (length out) s (endedOf t)) out) (record { number = 2; value = nothing; state = s; read = 0; bytes = out }) in
-          tellAll s (lines t) ≡ wrote r ++ tellAll (r .state) (lines (drop (r .read) t))
-      by true = let texts = runs (length out) s (endedOf t) .text in rw (take-append-seam texts (drop (length texts) out)) (runs-step (endedOf t) (length out) s t refl)
-      by false = refl
+  run-step s t out =
+      let texts = runs (length out) s (endedOf t) .text in
+      cases (sound s) (λ x. rw (x, take-append-seam texts (drop (length texts) out)) (runs-step (endedOf t) (length out) s t refl)) (λ x. rw x)
 
 pub step : (s : Schedule) (t out more : List ℕ)
     → tellAll s (linesOf (t ++ more)) ≡ wrote (runOutcome s t out) ++ tellAll (runOutcome s t out .state) (linesOf (drop (runOutcome s t out .read) t ++ more))
@@ -141,11 +127,7 @@ record AllEnded (t : List ℕ) : Type 0 where
 all-ended : (t : List ℕ) → Ended t → AllEnded t
 unfolding linesOf endedOf lastByte total
 all-ended [] h = record { lines = refl; size = refl }
-all-ended (b ∷ []) h = by (eqb b 10) refl
-  where
-    by : (x : Bool) → eqb b 10 ≡ x → AllEnded (b ∷ [])
-    by true e = record { lines = rw e; size = rw e }
-    by false e = absurd (eqb-false b 10 e h)
+all-ended (b ∷ []) h = let e = eq-eqb b 10 h in record { lines = rw e; size = rw e }
 all-ended (b ∷ c ∷ t) h = by (eqb b 10) refl (endedOf (c ∷ t)) refl (all-ended (c ∷ t) h)
   where
     by : (x : Bool) → eqb b 10 ≡ x → (ls : List (List ℕ)) → endedOf (c ∷ t) ≡ ls → AllEnded (c ∷ t) → AllEnded (b ∷ c ∷ t)
@@ -217,7 +199,10 @@ tell-long s l m h k = rw (long-line l h, long-line m k)
 pub cut : (s : Schedule) (t more : List ℕ) → endedOf t ≡ [] → tellAll s (linesOf (take 69 t ++ more)) ≡ tellAll s (linesOf (t ++ more))
 unfolding tellAll
 cut s [] more e = refl
-cut s (b ∷ t) more e = by (ltb 68 (length t)) refl
+cut s (b ∷ t) more e =
+    cases (ltb 68 (length t))
+    (λ x. rw (lines-behind b (take 68 t) more (take-none 69 (b ∷ t) e), lines-behind b t more e) (same (ltb-true 68 (length t) x) (linesOf more)))
+    (λ x. rw (take-all 68 t (omega (arith, ltb-false 68 (length t) x))))
   where
     long : 68 < length t → (l : List ℕ) → tell s (b ∷ (take 68 t ++ l)) ≡ tell s (b ∷ (t ++ l))
     long h l =
@@ -228,10 +213,6 @@ cut s (b ∷ t) more e = by (ltb 68 (length t)) refl
     same : 68 < length t → (ls : List (List ℕ)) → tellAll s (before (b ∷ take 68 t) ls) ≡ tellAll s (before (b ∷ t) ls)
     same h [] = rw (simp append-nil at (long h []))
     same h (l ∷ ls) = rw (long h l)
-
-    by : (x : Bool) → ltb 68 (length t) ≡ x → tellAll s (linesOf (take 69 (b ∷ t) ++ more)) ≡ tellAll s (linesOf (b ∷ (t ++ more)))
-    by true x = rw (lines-behind b (take 68 t) more (take-none 69 (b ∷ t) e), lines-behind b t more e) (same (ltb-true 68 (length t) x) (linesOf more))
-    by false x = rw (take-all 68 t (omega (arith, ltb-false 68 (length t) x)))
 
 pub gives-output : (t out : List ℕ) → Ended t → length (output t) + mostText ≤ length out
     → runOutcome (pad fresh) t out

@@ -1,19 +1,20 @@
 -- What the core of the clock call leaves.
 use mathlib.Core.Path.{_≡_}
-use Prim.Native.Nat.{ℕ, _*_}
+use Prim.Native.Nat.{ℕ, _*_, _≤_}
 use mathlib.Core.List.{List}
 use lib.ListN.{length, take}
 use Rattle.rules.specs.declared.Schedule.{Schedule}
-use Rattle.rules.specs.Records.{mostEvents, view, pad}
+use Rattle.rules.specs.Records.{view, pad}
 use Rattle.rules.specs.Lists.{keep}
 use Rattle.rules.specs.Bytes.{bytes, rowSize, rowsSize}
+use Rattle.rules.specs.Holding.{endOf}
 use Rattle.rules.specs.Moments.{lasts, passed}
 use Rattle.rules.specs.Calls.{numberOf, valueOf, counted, setClock, call}
 use Rattle.calls.specs.declared.Acted.{Acted}
 use Rattle.calls.specs.declared.advance.Passed.{Passed}
 use Rattle.calls.specs.declared.held.Head.{Head}
-use Rattle.calls.specs.Slots.{scheduleOf, InUse}
-use Rattle.calls.specs.Live.{masked}
+use Rattle.calls.specs.Slots.{slotState, scheduleOf, InUse}
+use Rattle.calls.specs.Sets.{eventAt, SetOf, MasksOnly}
 
 -- the schedule at the reading, how many rows there are, and their bytes at the front of the buffer
 pub record Advanced (s : Schedule) (reading : ℕ) (buffer : List ℕ) (next : Schedule) (count : ℕ) : Type 0 where
@@ -22,12 +23,13 @@ pub record Advanced (s : Schedule) (reading : ℕ) (buffer : List ℕ) (next : S
   pub written : take (rowSize * count) buffer ≡ bytes (passed (view s) reading .rows)
   pub size : length buffer ≡ rowsSize
 
--- the moments up to the reading, passed with none of the first events dropped: the mask of each at the end, how many rows there are, and their bytes at the front of the buffer
-pub record Passes (s : Schedule) (reading : ℕ) (buffer : List ℕ) (count : ℕ) (held : List ℕ) : Type 0 where
-  pub masks : length held ≡ mostEvents
-  pub state : passed (view s) reading .state ≡ record { clock = reading; programs = s .programs; entries = keep (lasts reading) (masked (s .count) (s .entries) held) }
-  pub rows : count ≡ length (passed (view s) reading .rows)
-  pub written : take (rowSize * count) buffer ≡ bytes (passed (view s) reading .rows)
+-- the moments up to the reading, passed with nothing dropped: what the slots hold then, who has ended, how many rows there are, and their bytes at the front of the buffer
+pub record Passes (d : Head) (w : List (List ℕ)) (reading : ℕ) (buffer : List ℕ) (ended count : ℕ) (new : List (List ℕ)) : Type 0 where
+  pub masks : MasksOnly w new
+  pub over : SetOf (d .count) (λ i. endOf (eventAt new i) ≤ reading) ended
+  pub state : passed (view (scheduleOf d w)) reading .state ≡ record { clock = reading; programs = d .programs; entries = keep (lasts reading) (slotState d new .entries) }
+  pub rows : count ≡ length (passed (view (scheduleOf d w)) reading .rows)
+  pub written : take (rowSize * count) buffer ≡ bytes (passed (view (scheduleOf d w)) reading .rows)
   pub size : length buffer ≡ rowsSize
 
 -- the same of a schedule in slots

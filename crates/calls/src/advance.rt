@@ -1,87 +1,88 @@
-// The private core of the clock call, on slots that are known to be sound.
+// The core of the clock call, on slots that are known to be sound. It looks at what moves: from one moment to the next at which an event begins or ends.
+//
+// slots             each held event; its mask is what it holds after the last moment (`settle::hold` writes the masks, `finish` drops slots)
+// agenda            the starts and ends up to the reading, each one number, ascending, then end marks (`agenda::gather` writes it, once)
+// rows              the rows so far, as bytes (`clock::report` writes them)
+// holding           a set of places, one bit each: whose mask is not 0 (`settle::hold` keeps it beside the masks)
+// ending, starting  sets: who ends, who begins at the moment (`agenda::take`)
+// ended             a set: who has ended since the clock (`moments`)
 ghost use mathlib.Core.Path.{_≡_};
 ghost use Prim.Native.Nat.{_≤_};
 ghost use lib.ListN.{length};
-ghost use Rattle.rules.specs.Records.{mostEvents, lastClock};
+ghost use Rattle.rules.specs.Records.{lastClock};
 ghost use Rattle.rules.specs.Bytes.{rowsSize};
-ghost use Rattle.calls.specs.Slots.{scheduleOf, Ready};
-ghost use Rattle.calls.specs.Columns.{Uncancelled};
-ghost use Rattle.calls.specs.Live.{slotsAt, Placed};
+ghost use Rattle.calls.specs.Slots.{Ready};
+ghost use Rattle.calls.specs.Agenda.{Agenda};
 ghost use Rattle.calls.specs.Advanced.{Passes, Advances};
+use crate::agenda;
 use crate::clock;
+use crate::clock::Due;
+use crate::clock::Standing;
 use crate::finish;
 use crate::held::Head;
-use crate::held::Masks;
-use crate::held::Places;
-use crate::held::RowCodes;
 use crate::held::Rows;
 use crate::held::Slots;
-use crate::held::Times;
-use crate::live;
-use crate::settle;
-use rules::Schedule;
 
 pub(crate) struct Passed {
     pub(crate) head: Head,
     pub(crate) rows: usize,
 }
 
-// All moments up to a reading at which one of the events at the places begins or ends; `held` ends as the masks that they hold then. Returns how many rows
-// there are.
-fn moments(
-    d: Head,
-    slots: &Slots,
-    places: &Places,
-    to: u64,
-    rows: &mut Rows,
-    held: &mut Masks,
-) -> usize
-    requires { ⌜ (length (now slots) ≡ mostEvents) × Placed (d .count) (now places)
-        × Ready d (slotsAt (now slots) (now places)) × Uncancelled (d .count) (slotsAt (now slots) (now places)) ⌝ }
-    requires { ⌜ (d .clock ≤ to) × (to ≤ lastClock) × (length (now rows) ≡ rowsSize) × (length (now held) ≡ mostEvents) ⌝ }
-    ensures { λ r. ⌜ Passes (scheduleOf d (slotsAt (now (slots .entry)) (now (places .entry)))) to (now (rows .exit)) r (now (held .exit)) ⌝ }
-{
-    let n = d.count;
-    let from = d.clock;
-    let programs = d.programs;
-    let mut begins: Times = [0; Schedule::EVENTS];
-    let mut ends: Times = [0; Schedule::EVENTS];
-    let mut carried: Masks = [0; Schedule::EVENTS];
-    clock::columns_of(slots, places, n, &mut begins, &mut ends, &mut carried, held);
-    let mut kept: Masks = [0; Schedule::EVENTS];
-    let mut codes: RowCodes = [0; Schedule::EVENTS];
-    let limit = to + 1;
-    let mut t = clock::next_moment(from, limit, &begins, &ends, n);
-    let mut at = 0;
-    while t < limit {
-        let claimed = clock::claims_at(t, limit, &begins, &ends, &carried, held, n, &mut kept);
-        settle::settle(&mut kept, claimed.shared, programs, slots, places, n);
-        let given = clock::codes_at(t, &begins, &ends, held, &kept, n, &mut codes);
-        at = clock::rows_at(rows, at, t, slots, places, &codes, n, given);
-        *held = kept;
-        t = claimed.next;
-    }
-    at
+// What the moments leave besides the slots: the places of the events that have ended, and how many rows there are.
+struct Through {
+    ended: u64,
+    rows: usize,
 }
 
-// A reading: the moments of the events that are live up to it, their masks back into the slots, and what has ended dropped.
+// All moments of the agenda.
+fn moments(d: Head, slots: &mut Slots, to: u64, agenda: &agenda::Agenda, rows: &mut Rows) -> Through
+    requires { ⌜ Ready d (now slots) × Agenda (d .clock) to (d .count) (now slots) (now agenda) ⌝ }
+    requires { ⌜ (d .clock ≤ to) × (to ≤ lastClock) × (length (now rows) ≡ rowsSize) ⌝ }
+    ensures { λ r. ⌜ Passes d (now (slots .entry)) to (now (rows .exit)) (r .ended) (r .rows) (now (slots .exit)) ⌝ }
+{
+    let mut s = Standing {
+        holding: clock::holders(slots, d.count),
+        rows: 0,
+    };
+    let mut ended = 0;
+    let mut k = 0;
+    let mut t = agenda::time_at(agenda, k);
+    while t <= to {
+        let ends = agenda::take(agenda, k, agenda::after_ends(t));
+        let starts = agenda::take(agenda, ends.next, agenda::after_starts(t));
+        let due = Due {
+            ending: ends.places,
+            starting: starts.places,
+        };
+        s = clock::moment(d, slots, t, due, s, rows);
+        ended |= ends.places;
+        k = starts.next;
+        t = agenda::time_at(agenda, k);
+    }
+    Through {
+        ended,
+        rows: s.rows,
+    }
+}
+
+// A reading: the moments up to it, and what has ended dropped.
 pub(crate) fn advance(mut d: Head, slots: &mut Slots, to: u64, rows: &mut Rows) -> Passed
     requires { ⌜ Ready d (now slots) ⌝ }
     requires { ⌜ (d .clock ≤ to) × (to ≤ lastClock) × (length (now rows) ≡ rowsSize) ⌝ }
     ensures { λ r. ⌜ Advances d (now (slots .entry)) to (now (rows .exit)) r (now (slots .exit)) ⌝ }
 {
-    let n = d.count;
-    let mut places: Places = [0; Schedule::EVENTS];
-    let m = live::pick(d.clock, to, slots, n, &mut places);
-    let mut part = d;
-    part.count = m;
-    let mut held: Masks = [0; Schedule::EVENTS];
-    let count = moments(part, slots, &places, to, rows, &mut held);
-    live::give_back(slots, &places, m, &held);
-    d.count = finish::finish(slots, n, to);
+    let mut agenda: agenda::Agenda = [agenda::NOTHING; agenda::AGENDA_SIZE];
+    agenda::gather(d.clock, to, slots, d.count, &mut agenda);
+    let mut through = Through { ended: 0, rows: 0 };
+    if agenda[0] != agenda::NOTHING {
+        through = moments(d, slots, to, &agenda, rows);
+    }
+    if through.ended != 0 {
+        d.count = finish::finish(slots, d.count, through.ended);
+    }
     d.clock = to;
     Passed {
         head: d,
-        rows: count,
+        rows: through.rows,
     }
 }

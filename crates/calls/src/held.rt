@@ -6,7 +6,7 @@ ghost use mathlib.Core.List.{[]};
 ghost use Prim.Native.Nat.{_<_};
 ghost use lib.ListN.{getD};
 ghost use Rattle.rules.specs.Records.{mostEvents};
-ghost use Rattle.rules.specs.Holding.{withHolding};
+ghost use Rattle.rules.specs.Holding.{endOf, withHolding};
 ghost use Rattle.calls.specs.Slots.{entryOf, headOf, scheduleOf, InUse, CanTake, TakenApart};
 use rules::Entry;
 use rules::Event;
@@ -61,15 +61,6 @@ pub(crate) const NO_SLOTS: Slots = [[0; SLOT_SIZE]; Schedule::EVENTS];
 pub(crate) type Rows = [u8; rules::ROWS_SIZE];
 
 pub(crate) const NO_ROWS: Rows = [0; rules::ROWS_SIZE];
-
-// A number for each of some events: times, masks, places of slots, response codes.
-pub(crate) type Times = [u64; Schedule::EVENTS];
-
-pub(crate) type Masks = [u32; Schedule::EVENTS];
-
-pub(crate) type Places = [u8; Schedule::EVENTS];
-
-pub(crate) type RowCodes = [u8; Schedule::EVENTS];
 
 // What a schedule has besides its events.
 pub(crate) struct Head {
@@ -156,6 +147,13 @@ pub(crate) fn program_at(slots: &Slots, i: usize) -> u8
     (slots[i][PROGRAM] % VALUES8) as u8
 }
 
+pub(crate) fn controls_at(slots: &Slots, i: usize) -> u32
+    requires { ⌜ i < mostEvents ⌝ }
+    ensures { λ r. ⌜ r ≡ entryOf (getD (now (slots .entry)) i []) .event .controls ⌝ }
+{
+    (slots[i][CONTROLS] % VALUES32) as u32
+}
+
 pub(crate) fn created_at(slots: &Slots, i: usize) -> u32
     requires { ⌜ i < mostEvents ⌝ }
     ensures { λ r. ⌜ r ≡ entryOf (getD (now (slots .entry)) i []) .event .created ⌝ }
@@ -168,6 +166,17 @@ pub(crate) fn begins_at(slots: &Slots, i: usize) -> u64
     ensures { λ r. ⌜ r ≡ entryOf (getD (now (slots .entry)) i []) .begins ⌝ }
 {
     slots[i][BEGINS]
+}
+
+pub(crate) fn ends_at(slots: &Slots, i: usize) -> u64
+    requires { ⌜ i < mostEvents ⌝ }
+    ensures { λ r. ⌜ r ≡ endOf (entryOf (getD (now (slots .entry)) i [])) ⌝ }
+{
+    let slot = slots[i];
+    let h = entry_of(slot);
+    let e = h.event;
+    let end = e.effective_end();
+    end.time
 }
 
 pub(crate) fn held_at(slots: &Slots, i: usize) -> u32

@@ -10,12 +10,13 @@ ghost use Rattle.calls.specs.Lines.{lineOutcome, ranOf, runOutcome};
 ghost use Rattle.calls.specs.Whole.{WholeText};
 
 mod advance;
+mod agenda;
+mod bits;
 mod clock;
 mod events;
 mod finish;
 mod held;
 mod lines;
-mod live;
 mod programs;
 mod reading;
 mod settle;

@@ -1,18 +1,14 @@
-// Who keeps which control, where a better event takes it: control by control, by shifts.
+// Who keeps which control when an event begins. The masks stand in the slots; a set of places, one bit each, says which events hold something.
 ghost use mathlib.Core.Path.{_≡_};
-ghost use Prim.Native.Nat.{_≤_, _<_, _^_};
-ghost use mathlib.Core.List.{[]};
-ghost use lib.ListN.{length, take, getD, set};
-ghost use Rattle.rules.specs.Lists.{Pairwise};
-ghost use Rattle.rules.specs.Records.{has, cut, mostEvents, mostPrograms, idNumber, mostControls};
+ghost use Prim.Native.Nat.{_<_};
+ghost use lib.ListN.{length};
+ghost use Rattle.rules.specs.Records.{has, cut, idNumber, mostControls, mostEvents, mostPrograms, programAt};
 ghost use Rattle.rules.specs.Holding.{better};
-ghost use Rattle.calls.specs.Slots.{entryOf};
-ghost use Rattle.calls.specs.Columns.{primaciesOf, createdOf, idsOf, Numbered};
-ghost use Rattle.calls.specs.Settled.{claimants, settled, rankAt, betterAt, Contested, Decided};
-ghost use Rattle.calls.specs.Live.{slotsAt, Placed};
+ghost use Rattle.calls.specs.Sets.{eventAt, rankIn, Masked, Counted};
+ghost use Rattle.calls.specs.Settled.{Comes, Contended};
+use crate::bits;
 use crate::held;
-use crate::held::Masks;
-use crate::held::Places;
+use crate::held::Head;
 use crate::held::Programs;
 use crate::held::Slots;
 use rules::Id;
@@ -41,13 +37,13 @@ pub(crate) fn is_in(m: u32, c: u32) -> bool
     requires { ⌜ c < mostControls ⌝ }
     ensures { λ r. ⌜ r ≡ has m c ⌝ }
 {
-    (m >> c) % 2 == 1
+    bits::contains(m as u64, c as usize)
 }
 
 // The primacy of the event in a slot.
 fn primacy_at(programs: Programs, slots: &Slots, i: usize) -> u8
-    requires { ⌜ (i < mostEvents) × (length (now slots) ≡ mostEvents) × (entryOf (getD (now slots) i []) .event .program < mostPrograms) ⌝ }
-    ensures { λ r. ⌜ r ≡ getD (primaciesOf programs (now (slots .entry))) i 0 ⌝ }
+    requires { ⌜ (i < mostEvents) × (eventAt (now slots) i .event .program < mostPrograms) ⌝ }
+    ensures { λ r. ⌜ r ≡ programAt programs (eventAt (now (slots .entry)) i .event .program) .primacy ⌝ }
 {
     let number = held::program_at(slots, i) as usize;
     let p = programs[number];
@@ -56,9 +52,9 @@ fn primacy_at(programs: Programs, slots: &Slots, i: usize) -> u8
 
 // Whether the event in slot i is better than the one in j.
 fn is_ahead(programs: Programs, slots: &Slots, i: usize, j: usize) -> bool
-    requires { ⌜ (i < mostEvents) × (j < mostEvents) × (length (now slots) ≡ mostEvents)
-        × (entryOf (getD (now slots) i []) .event .program < mostPrograms) × (entryOf (getD (now slots) j []) .event .program < mostPrograms) ⌝ }
-    ensures { λ r. ⌜ r ≡ betterAt (primaciesOf programs (now (slots .entry))) (createdOf (now (slots .entry))) (idsOf (now (slots .entry))) i j ⌝ }
+    requires { ⌜ (i < mostEvents) × (j < mostEvents)
+        × (eventAt (now slots) i .event .program < mostPrograms) × (eventAt (now slots) j .event .program < mostPrograms) ⌝ }
+    ensures { λ r. ⌜ r ≡ better (rankIn programs (now (slots .entry)) i) (rankIn programs (now (slots .entry)) j) ⌝ }
 {
     is_better(
         primacy_at(programs, slots, i),
@@ -70,72 +66,56 @@ fn is_ahead(programs: Programs, slots: &Slots, i: usize, j: usize) -> bool
     )
 }
 
-// Takes control c from place i.
-fn take_away(masks: &mut Masks, i: usize, c: u32)
-    requires { ⌜ i < mostEvents ⌝ }
-    requires { ⌜ c < mostControls ⌝ }
-    ensures { λ _. ⌜ now (masks .exit) ≡ set (now (masks .entry)) i (cut (getD (now (masks .entry)) i 0) (2 ^ c)) ⌝ }
+// A mask without the controls that another has, one by one.
+fn without(mask: u32, other: u32) -> u32
+    ensures { λ r. ⌜ r ≡ cut mask other ⌝ }
 {
-    let m = masks[i];
-    masks[i] = m ^ (m & (1 << c));
+    let mut left = mask;
+    let mut rest = (mask & other) as u64;
+    while rest != 0 {
+        let next = bits::lowest(rest);
+        left ^= left & (1 << (next.place as u32));
+        rest = next.rest;
+    }
+    left
 }
 
-// Leaves control c to the best of those that claim it.
-fn decide(masks: &mut Masks, programs: Programs, slots: &Slots, places: &Places, n: usize, c: u32)
-    requires { ⌜ n ≤ mostEvents ⌝ }
-    requires { ⌜ c < mostControls ⌝ }
-    requires { ⌜ (length (now slots) ≡ mostEvents) × Placed n (now places) ⌝ }
-    requires { ⌜ Pairwise _<_ (take n (idsOf (slotsAt (now slots) (now places)))) ⌝ }
-    requires { ⌜ Numbered n (slotsAt (now slots) (now places)) ⌝ }
-    ensures { λ _. ⌜ Decided
-        (rankAt
-        (primaciesOf programs (slotsAt (now (slots .entry)) (now (places .entry))))
-        (createdOf (slotsAt (now (slots .entry)) (now (places .entry))))
-        (idsOf (slotsAt (now (slots .entry)) (now (places .entry)))))
-        n c (now (masks .entry)) (now (masks .exit)) ⌝ }
+// Gives the event at place i a mask; the set of those that hold something follows.
+pub(crate) fn hold(slots: &mut Slots, holding: u64, i: usize, mask: u32) -> u64
+    requires { ⌜ (i < mostEvents) × (length (now slots) ≡ mostEvents) ⌝ }
+    ensures { λ r. ⌜ Masked i mask (now (slots .entry)) (now (slots .exit)) × Counted i mask holding r ⌝ }
 {
-    let mut best = n;
-    let mut i = 0;
-    while i < n {
-        if is_in(masks[i], c) {
-            if best == n {
-                best = i;
-            } else if is_ahead(programs, slots, places[i] as usize, places[best] as usize) {
-                take_away(masks, best, c);
-                best = i;
+    let slot = slots[i];
+    slots[i] = held::with_mask(slot, mask);
+    let bit = 1 << (i as u64);
+    let others = holding ^ (holding & bit);
+    if mask == 0 {
+        return others;
+    }
+    others | bit
+}
+
+// The event at place i claims all that it carries: a better one keeps what it holds, any other loses what is claimed.
+pub(crate) fn contend(d: Head, slots: &mut Slots, holding: u64, i: usize) -> u64
+    requires { ⌜ Comes d (now slots) holding i ⌝ }
+    ensures { λ r. ⌜ Contended d i (now (slots .entry)) (now (slots .exit)) r ⌝ }
+{
+    let claim = held::controls_at(slots, i);
+    let mut left = claim;
+    let mut now = holding;
+    let mut rest = holding;
+    while rest != 0 {
+        let next = bits::lowest(rest);
+        let mask = held::held_at(slots, next.place);
+        if claim & mask != 0 {
+            let programs = d.programs;
+            if is_ahead(programs, slots, next.place, i) {
+                left = without(left, mask);
             } else {
-                take_away(masks, i, c);
+                now = hold(slots, now, next.place, without(mask, claim));
             }
         }
-        i += 1;
+        rest = next.rest;
     }
-}
-
-// What each of the first n events keeps of its claim, where two or more claim the controls in `shared`. No other control needs a decision.
-pub(crate) fn settle(
-    masks: &mut Masks,
-    shared: u32,
-    programs: Programs,
-    slots: &Slots,
-    places: &Places,
-    n: usize,
-)
-    requires { ⌜ n ≤ mostEvents ⌝ }
-    requires { ⌜ length (now masks) ≡ mostEvents ⌝ }
-    requires { ⌜ Contested (now masks) n shared ⌝ }
-    requires { ⌜ (length (now slots) ≡ mostEvents) × Placed n (now places) ⌝ }
-    requires { ⌜ Pairwise _<_ (take n (idsOf (slotsAt (now slots) (now places)))) ⌝ }
-    requires { ⌜ Numbered n (slotsAt (now slots) (now places)) ⌝ }
-    ensures { λ _. ⌜ (length (now (masks .exit)) ≡ mostEvents) × (take n (now (masks .exit)) ≡ settled (claimants
-        (take n (now (masks .entry)))
-        (take n (primaciesOf programs (slotsAt (now (slots .entry)) (now (places .entry)))))
-        (take n (createdOf (slotsAt (now (slots .entry)) (now (places .entry)))))
-        (take n (idsOf (slotsAt (now (slots .entry)) (now (places .entry))))))) ⌝ }
-{
-    let mut rest = shared;
-    while rest != 0 {
-        let c = u32::trailing_zeros(rest);
-        decide(masks, programs, slots, places, n, c);
-        rest ^= 1 << c;
-    }
+    hold(slots, now, i, left)
 }

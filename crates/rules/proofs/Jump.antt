@@ -40,9 +40,9 @@ advance-add (suc m) n s =
     ∙ ap (λ rs. record { state = advance n (advance (suc m) s .state) .state; rows = rs })
     (sym (append-assoc (second s .rows) (advance m (second s .state) .rows) (advance n (advance (suc m) s .state) .rows)))
 
--- an entry neither begins nor ends in the n seconds after the clock
+-- an entry neither begins nor ends in the n seconds after the clock; a cancelled one never begins
 pub record Idle (c n : ℕ) (h : Entry) : Type 0 where
-  pub begins : (h .begins ≤ c) ⊎ (c + n < h .begins)
+  pub begins : h .cancelled ≡ false → (h .begins ≤ c) ⊎ (c + n < h .begins)
   pub ends : c + n < endOf h
 
 resting : (s : State) → Sound s → (n : ℕ) → All (Idle (s .clock) (suc n)) (s .entries) → All (Resting (s .clock)) (s .entries)
@@ -53,7 +53,7 @@ resting s v n i h m =
       lasting = q .lasts;
       early = q .early;
       stopped = q .stopped;
-      not-begin = λ e. ⊎-elim (λ l. omega arith) (λ l. omega arith) (r .begins);
+      not-begin = λ p e. ⊎-elim (λ l. omega arith) (λ l. omega arith) (r .begins p);
       not-end = λ e. omega (arith, r .ends);
     }
 
@@ -66,7 +66,7 @@ idle (suc n) s v l i =
     let there : s .clock + suc n ≡ suc (s .clock) + n = omega arith in
     ap (λ o. onward o (advance n (o .state))) one
     ∙ idle n (record { clock = suc (s .clock); programs = s .programs; entries = s .entries }) (subst (λ o. Sound (o .state)) one next) (omega arith)
-    (λ h m. record { begins = ⊎-elim (λ b. inl (omega arith)) (λ b. inr (omega arith)) (i h m .begins); ends = omega (arith, i h m .ends) })
+    (λ h m. record { begins = λ p. ⊎-elim (λ b. inl (omega arith)) (λ b. inr (omega arith)) (i h m .begins p); ends = omega (arith, i h m .ends) })
     ∙ ap (λ c. record { state = record { clock = c; programs = s .programs; entries = s .entries }; rows = [] }) (sym there)
 
 -- the same as a test
@@ -77,7 +77,7 @@ pub idle-for : (c n : ℕ) (h : Entry) → idleFor c n h ≡ true → Idle c n h
 unfolding idleFor
 idle-for c n h e =
     let r = each-true (leb (h .begins) c || ltb (c + n) (h .begins)) (ltb (c + n) (endOf h)) e in
-    record { begins = go (leb (h .begins) c) refl (r .0); ends = ltb-true (c + n) (endOf h) (r .1) }
+    record { begins = λ p. go (leb (h .begins) c) refl (r .0); ends = ltb-true (c + n) (endOf h) (r .1) }
   where
     go : (b : Bool) → leb (h .begins) c ≡ b → (b || ltb (c + n) (h .begins)) ≡ true → (h .begins ≤ c) ⊎ (c + n < h .begins)
     go true p q = inl (leb-true (h .begins) c p)
@@ -92,7 +92,7 @@ idle-next c (x ∷ xs) e l h m =
     go (eqb-false (x .begins) (suc c) (p .0)) (eqb-false (endOf x) (suc c) (q .0)) (λ n. idle-next c xs (q .1) (λ y k. l y (inr k)) h n) m
   where
     go : (x .begins ≡ suc c → ⊥) → (endOf x ≡ suc c → ⊥) → (In h xs → Idle c 1 h) → In h (x ∷ xs) → Idle c 1 h
-    go u w ih (inl d) = subst (Idle c 1) (sym d) (record { begins = apart (leb (x .begins) c) refl; ends = let k = l x (inl refl) in omega arith })
+    go u w ih (inl d) = subst (Idle c 1) (sym d) (record { begins = λ p. apart (leb (x .begins) c) refl; ends = let k = l x (inl refl) in omega arith })
       where
         apart : (b : Bool) → leb (x .begins) c ≡ b → (x .begins ≤ c) ⊎ (c + 1 < x .begins)
         apart true f = inl (leb-true (x .begins) c f)

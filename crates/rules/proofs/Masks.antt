@@ -35,6 +35,12 @@ has-join a b c =
     rw (or-shr a b c, or-mod (a / 2 ^ c) (b / 2 ^ c) 1)
     (two (λ x y. eqb (bitOr x y) 1 ≡ eqb x 1 || eqb y 1) refl refl refl refl (a / 2 ^ c % 2) (b / 2 ^ c % 2) (digit a c) (digit b c))
 
+pub has-and : (a b c : ℕ) → has (bitAnd a b) c ≡ has a c && has b c
+unfolding has
+has-and a b c =
+    rw (and-shr a b c, and-mod (a / 2 ^ c) (b / 2 ^ c) 1)
+    (two (λ x y. eqb (bitAnd x y) 1 ≡ eqb x 1 && eqb y 1) refl refl refl refl (a / 2 ^ c % 2) (b / 2 ^ c % 2) (digit a c) (digit b c))
+
 pub has-none : (c : ℕ) → has 0 c ≡ false
 unfolding has
 has-none c = rw zero-div

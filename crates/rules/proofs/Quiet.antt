@@ -18,7 +18,7 @@ use Rattle.rules.proofs.Tests.{both}
 use Rattle.rules.proofs.ListLaws.{keep-all, keep-no, map-same}
 use Rattle.rules.proofs.Masks.{cut-apart}
 use Rattle.rules.proofs.Ranks.{better-self}
-use Rattle.rules.proofs.Claims.{Kind}
+use Rattle.rules.proofs.Claims.{Kind, claim-cancelled, code-cancelled}
 use Rattle.rules.proofs.Holders.{has-taken}
 
 -- two that hold one control are one
@@ -28,31 +28,38 @@ same-holder (x ∷ xs) one h o (inl p) (inr n) c e d = absurd (one .0 o n c (rw 
 same-holder (x ∷ xs) one h o (inr m) (inl q) c e d = absurd (one .0 h m c (rw q at d) e)
 same-holder (x ∷ xs) one h o (inr m) (inr n) c e d = same-holder xs (one .1) h o m n c e d
 
--- an entry as an image may have it at clock c, that neither begins nor ends a second later
+-- an entry as an image may have it at clock c, that neither begins nor ends a second later; a cancelled one never begins
 pub record Resting (c : ℕ) (h : Entry) : Type 0 where
   pub lasting : c < endOf h
   pub early : c < h .begins → h .held ≡ 0
   pub stopped : h .cancelled ≡ true → h .held ≡ 0
-  pub not-begin : h .begins ≡ suc c → ⊥
+  pub not-begin : h .cancelled ≡ false → h .begins ≡ suc c → ⊥
   pub not-end : endOf h ≡ suc c → ⊥
 
 claim-resting : (c : ℕ) (h : Entry) → Resting c h → claim (suc c) h ≡ h .held
 unfolding claim
-claim-resting c h r = rw (lt-leb (endOf h) (suc c) (let e = r .not-end in omega (arith, r .lasting)), ne-eqb (h .begins) (suc c) (r .not-begin)) (go (h .cancelled) refl (ltb (suc c) (h .begins)) refl)
+claim-resting c h r = go (h .cancelled) refl
   where
-    go : (b : Bool) → h .cancelled ≡ b → (d : Bool) → ltb (suc c) (h .begins) ≡ d → cond ((b || false) || d) 0 (h .held) ≡ h .held
-    go true p d q = sym (r .stopped p)
-    go false p true q = sym (r .early (omega (arith, ltb-true (suc c) (h .begins) q)))
-    go false p false q = refl
+    begun : (d : Bool) → ltb (suc c) (h .begins) ≡ d → cond d 0 (h .held) ≡ h .held
+    begun true q = sym (r .early (omega (arith, ltb-true (suc c) (h .begins) q)))
+    begun false q = refl
+
+    go : (b : Bool) → h .cancelled ≡ b → claim (suc c) h ≡ h .held
+    go true p = claim-cancelled (suc c) h p ∙ sym (r .stopped p)
+    go false p = rw (p, lt-leb (endOf h) (suc c) (let e = r .not-end in omega (arith, r .lasting)), ne-eqb (h .begins) (suc c) (r .not-begin p)) (begun (ltb (suc c) (h .begins)) refl)
 
 code-resting : (c : ℕ) (h : Entry) → Resting c h → codeAt (suc c) h (record { held = h .held }) ≡ 0
 unfolding codeAt
-code-resting c h r = rw (ne-eqb (h .begins) (suc c) (r .not-begin), ne-eqb (endOf h) (suc c) (r .not-end)) (go (h .cancelled || ltb (endOf h) (suc c) || ltb (suc c) (h .begins)) (eqb (h .held) 0))
+code-resting c h r = go (h .cancelled) refl
   where
-    go : (b d : Bool) → cond {A = ℕ} b 0 (cond (d || not d) 0 7) ≡ 0
-    go true d = refl
-    go false true = refl
-    go false false = refl
+    none : (b d : Bool) → cond {A = ℕ} b 0 (cond (d || not d) 0 7) ≡ 0
+    none true d = refl
+    none false true = refl
+    none false false = refl
+
+    go : (b : Bool) → h .cancelled ≡ b → codeAt (suc c) h (record { held = h .held }) ≡ 0
+    go true p = code-cancelled (suc c) h (record { held = h .held }) p
+    go false p = rw (ne-eqb (h .begins) (suc c) (r .not-begin p), ne-eqb (endOf h) (suc c) (r .not-end)) (none (h .cancelled || ltb (endOf h) (suc c) || ltb (suc c) (h .begins)) (eqb (h .held) 0))
 
 module _ (s : State) (one : OneHolder (s .entries)) (rest : All (Resting (s .clock)) (s .entries)) where
   abbrev t : ℕ

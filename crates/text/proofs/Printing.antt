@@ -1,14 +1,13 @@
 -- Texts one behind the other in a buffer, and how long they are.
 use mathlib.Core.Path.{_≡_, refl, sym, ap, _∙_}
-use Prim.Native.Nat.{ℕ, zero, suc, _+_, _-_, _*_, _/_, _%_, _<_, _≤_}
+use Prim.Native.Nat.{ℕ, zero, suc, _+_, _*_, _/_, _%_, _<_, _≤_}
 use mathlib.Core.Bool.{Bool, true, false, cond}
 use mathlib.Core.List.{List, [], _∷_, _++_, append-assoc, append-nil}
 use native.Mathlib.Numerals.{add-one}
 use native.Mathlib.Omega.{arith}
-use borrow.Author.Tests.{lt-ltb, le-ltb}
 use lib.Dec.{ltb, leb}
 use lib.ListN.{length, take, getD, set, length-append}
-use lib.Seq.{take-suc, set-split, drop-drop}
+use lib.Seq.{take-suc, sets, sets-eq, drop-drop}
 use denote.Enum.Declared.{tagOf}
 use types.Run.{OneOf, miss}
 use Rattle.rules.specs.declared.Answer.{Answer}
@@ -30,9 +29,12 @@ module _ {l : List ℕ} {at : ℕ} where
   put-then {s = s} {t = t} h p q =
       record { end = omega (arith, p .end, q .end, length-append s t); is = q .is ∙ rw (p .is, p .end) (over-then at s t l h) }
 
-  -- one byte
+  -- bytes stored one behind the other
+  pub put-bytes : (t : List ℕ) → at + length t ≤ length l → Stands l at t (sets l at t) (at + length t)
+  put-bytes t h = record { end = refl; is = rw drop-drop (rw append-assoc at (sets-eq t l at h)) }
+
   pub put-one : (b : ℕ) → at < length l → Stands l at (b ∷ []) (set l at b) (at + 1)
-  put-one b h = record { end = omega arith; is = set-split l at b h ∙ rw (drop-drop 1 at l, add-one) }
+  put-one b h = put-bytes (b ∷ []) (omega arith)
 
 -- a text where there is room for it, and none where there is not
 pub room-none : (most : ℕ) (t : List ℕ) {l : List ℕ} {at : ℕ} → leb (at + most) (length l) ≡ false → Stands l at (ifRoom most at l t) l at
@@ -59,17 +61,10 @@ decimal-length (suc n) x = go (ltb x 10) (decimal-length n (x / 10))
     go true h = omega arith
     go false h = simp length-append (omega arith)
 
-pub decimal-one : (n x : ℕ) → (n ≡ 0 → ⊥) → x < 10 → decimal n x ≡ (48 + x) ∷ []
-unfolding decimal
-decimal-one zero x h k = absurd (h refl)
-decimal-one (suc n) x h k = rw (lt-ltb x 10 k)
+-- where a number ends, and what follows it
+pub decimal-within : (n x : ℕ) {l m : List ℕ} {at r : ℕ} → Stands l at (decimal n x) m r → r ≤ at + n
+decimal-within n x p = omega (arith, p .end, decimal-length n x)
 
-pub decimal-more : (n x : ℕ) → (n ≡ 0 → ⊥) → 10 ≤ x → decimal n x ≡ decimal (n - 1) (x / 10) ++ ((48 + x % 10) ∷ [])
-unfolding decimal
-decimal-more zero x h k = absurd (h refl)
-decimal-more (suc n) x h k = let e : suc n - 1 ≡ n = omega arith in rw (le-ltb x 10 k, e)
-
--- a number, and what follows it
 pub number-within : (x : ℕ) (w : List ℕ) {l m : List ℕ} {at r : ℕ} → Stands l at (digits x ++ w) m r → r ≤ at + (numberDigits + length w)
 number-within x w p = omega (arith, p .end, length-append (digits x) w, decimal-length numberDigits x)
 

@@ -1,8 +1,8 @@
 -- Texts written into a buffer, one behind the other.
 use mathlib.Core.Path.{_≡_}
-use Prim.Native.Nat.{ℕ, _+_, _*_, _/_, _%_, _^_, _≤_, _<_, max}
+use Prim.Native.Nat.{ℕ, zero, suc, _+_, _*_, _/_, _%_, _^_, _≤_, _<_, max}
 use mathlib.Core.Bool.{cond}
-use mathlib.Core.List.{List, [], _∷_}
+use mathlib.Core.List.{List, [], _∷_, _++_}
 use lib.Dec.{leb}
 use lib.ListN.{length}
 use Rattle.rules.specs.Lists.{overAt}
@@ -14,14 +14,10 @@ pub record Stands (old : List ℕ) (at : ℕ) (text new : List ℕ) (behind : �
   pub end : behind ≡ at + length text
   pub is : new ≡ overAt at text old
 
--- a number that is not 0 has n decimal digits, none of them a zero in front
-pub record HasDigits (n x : ℕ) : Type 0 where
-  pub below : x < 10 ^ n
-  pub from : 10 ^ n ≤ 10 * x
-
--- the last four decimal digits of a number, zeros too
-abbrev pub lastFour : ℕ → List ℕ
-lastFour x = (48 + x / 1000 % 10) ∷ (48 + x / 100 % 10) ∷ (48 + x / 10 % 10) ∷ (48 + x % 10) ∷ []
+-- the last n decimal digits of a number, zeros too
+unfoldable pub padded : ℕ → ℕ → List ℕ
+padded zero x = []
+padded (suc n) x = padded n (x / 10) ++ ((48 + x % 10) ∷ [])
 
 -- a number below 2 ^ 64 has no more decimal digits, and an id no more than these
 abbrev pub numberDigits : ℕ
@@ -52,9 +48,9 @@ mostRow = mostNumber + mostId + mostNumber
 abbrev pub mostText : ℕ
 mostText = mostRows * mostRow
 
--- a number has n digits, and there is room for them
+-- a number has at most n digits, and there is room for n
 pub record DigitsFit (n x at : ℕ) (out : List ℕ) : Type 0 where
-  pub digits : HasDigits n x
+  pub below : x < 10 ^ n
   pub room : at + n ≤ length out
 
 -- so many rows stand in a buffer from a place on, and there is room for their text

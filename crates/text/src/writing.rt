@@ -2,14 +2,13 @@
 ghost use mathlib.Core.Path.{_≡_};
 ghost use mathlib.Core.Bool.{cond};
 ghost use mathlib.Core.List.{[], _∷_, _++_};
-ghost use Prim.Native.Nat.{_+_, _≤_, _<_};
+ghost use Prim.Native.Nat.{_+_, _≤_};
 ghost use lib.Dec.{eqb};
 ghost use lib.ListN.{length};
-ghost use Rattle.rules.specs.Lists.{overAt};
 ghost use Rattle.rules.specs.Records.{idNumber};
 ghost use Rattle.rules.specs.Calls.{Outcome, numberOf, valueOf, counted};
 ghost use Rattle.rules.specs.Printed.{decimal, digits, space, refusedText, threeText, codeText, rowText, rowsText, askText, frameText};
-ghost use Rattle.text.specs.Texts.{HasDigits, Stands, lastFour, DigitsFit, RowsFit, LineFits};
+ghost use Rattle.text.specs.Texts.{Stands, padded, DigitsFit, RowsFit, LineFits};
 ghost use Rattle.text.specs.Texts.{numberDigits, mostNumber, mostId, mostRefused, mostAsk, mostRow};
 use rules::Answer;
 use rules::Frame;
@@ -18,69 +17,75 @@ use rules::ROW_CODE;
 use rules::ROW_ID;
 use rules::ROW_SIZE;
 
-// How many decimal digits a number that is not 0 has: four for each division by 10000, and those of what is left.
-fn length_of(x: u64) -> usize
-    requires { ⌜ 0 < x ⌝ }
-    ensures { λ r. ⌜ HasDigits r x ⌝ }
+// Two digits of a number below 100, zeros too.
+fn put_two(out: &mut [u8], at: usize, x: u32) -> usize
+    requires { ⌜ DigitsFit 2 x at (now out) ⌝ }
+    ensures { λ r. ⌜ Stands (now (out .entry)) at (padded 2 x) (now (out .exit)) r ⌝ }
 {
-    let mut rest = x;
-    let mut n = 1;
-    while 9999 < rest {
-        rest /= 10000;
-        n += 4;
-    }
-    if 999 < rest {
-        return n + 3;
-    }
-    if 99 < rest {
-        return n + 2;
-    }
-    if 9 < rest {
-        return n + 1;
-    }
-    n
+    out[at] = b'0' + (x / 10) as u8;
+    out[at + 1] = b'0' + (x % 10) as u8;
+    at + 2
 }
 
-// The n digits of a number, one to a division, from the last to the first.
-fn put_singly(out: &mut [u8], at: usize, n: usize, x: u64)
-    requires { ⌜ DigitsFit n x at (now out) ⌝ }
-    ensures { λ _. ⌜ now (out .exit) ≡ overAt at (decimal n x) (now (out .entry)) ⌝ }
+// Four digits of a number below 10000, zeros too. Two pairs stand in one number, so that one product has the tens of both; the bytes of `d` are the digits.
+fn put_four(out: &mut [u8], at: usize, x: u32) -> usize
+    requires { ⌜ DigitsFit 4 x at (now out) ⌝ }
+    ensures { λ r. ⌜ Stands (now (out .entry)) at (padded 4 x) (now (out .exit)) r ⌝ }
 {
-    let mut rest = x;
-    let mut i = n;
-    while 9 < rest {
-        i -= 1;
-        out[at + i] = b'0' + (rest % 10) as u8;
-        rest /= 10;
-    }
-    out[at] = b'0' + rest as u8;
+    let pairs = x / 100 + 65536 * (x % 100);
+    let scaled = pairs * 103 / 1024;
+    let tens = scaled / 65536 * 65536 + scaled % 16;
+    let d = tens + 256 * (pairs - 10 * tens) + 0x3030_3030;
+    out[at] = (d % 256) as u8;
+    out[at + 1] = (d / 256 % 256) as u8;
+    out[at + 2] = (d / 65536 % 256) as u8;
+    out[at + 3] = (d / 16777216) as u8;
+    at + 4
 }
 
-// The last four digits of a number, zeros too.
-fn put_four(out: &mut [u8], at: usize, x: u64)
-    requires { ⌜ at + 4 ≤ length (now out) ⌝ }
-    ensures { λ _. ⌜ now (out .exit) ≡ overAt at (lastFour x) (now (out .entry)) ⌝ }
+// Eight digits of a number below 100000000, zeros too.
+fn put_eight(out: &mut [u8], at: usize, x: u32) -> usize
+    requires { ⌜ DigitsFit 8 x at (now out) ⌝ }
+    ensures { λ r. ⌜ Stands (now (out .entry)) at (padded 8 x) (now (out .exit)) r ⌝ }
 {
-    let four = x % 10000;
-    out[at] = b'0' + (four / 1000) as u8;
-    out[at + 1] = b'0' + (four / 100 % 10) as u8;
-    out[at + 2] = b'0' + (four / 10 % 10) as u8;
-    out[at + 3] = b'0' + (four % 10) as u8;
+    let behind = put_four(out, at, x / 10000);
+    put_four(out, behind, x % 10000)
 }
 
-// The n digits of a number, four to a division as long as more than four are left.
-fn put_digits(out: &mut [u8], at: usize, n: usize, x: u64)
-    requires { ⌜ DigitsFit n x at (now out) ⌝ }
-    ensures { λ _. ⌜ now (out .exit) ≡ overAt at (decimal n x) (now (out .entry)) ⌝ }
+// A number below 100, no zero in front.
+fn below_hundred(out: &mut [u8], at: usize, x: u32) -> usize
+    requires { ⌜ DigitsFit 2 x at (now out) ⌝ }
+    ensures { λ r. ⌜ Stands (now (out .entry)) at (decimal 2 x) (now (out .exit)) r ⌝ }
 {
-    let mut rest = x;
-    let mut i = n;
-    while 9999 < rest {
-        i -= 4;
-        put_four(out, at + i, rest);
-        rest /= 10000;
+    if 9 < x {
+        return put_two(out, at, x);
     }
-    put_singly(out, at, i, rest);
+    out[at] = b'0' + x as u8;
+    at + 1
+}
+
+// A number below 10000, no zero in front.
+fn below_myriad(out: &mut [u8], at: usize, x: u32) -> usize
+    requires { ⌜ DigitsFit 4 x at (now out) ⌝ }
+    ensures { λ r. ⌜ Stands (now (out .entry)) at (decimal 4 x) (now (out .exit)) r ⌝ }
+{
+    if x < 100 {
+        return below_hundred(out, at, x);
+    }
+    let behind = below_hundred(out, at, x / 100);
+    put_two(out, behind, x % 100)
+}
+
+// A number below 100000000, no zero in front.
+fn below_eight(out: &mut [u8], at: usize, x: u32) -> usize
+    requires { ⌜ DigitsFit 8 x at (now out) ⌝ }
+    ensures { λ r. ⌜ Stands (now (out .entry)) at (decimal 8 x) (now (out .exit)) r ⌝ }
+{
+    if x < 10000 {
+        return below_myriad(out, at, x);
+    }
+    let behind = below_myriad(out, at, x / 10000);
+    put_four(out, behind, x % 10000)
 }
 
 // A number in decimal digits, no zero in front.
@@ -88,13 +93,18 @@ fn decimal(out: &mut [u8], at: usize, x: u64) -> usize
     requires { ⌜ at + numberDigits ≤ length (now out) ⌝ }
     ensures { λ r. ⌜ Stands (now (out .entry)) at (digits x) (now (out .exit)) r ⌝ }
 {
-    if x < 10 {
-        out[at] = b'0' + x as u8;
-        return at + 1;
+    if x < 100000000 {
+        return below_eight(out, at, x as u32);
     }
-    let n = length_of(x);
-    put_digits(out, at, n, x);
-    at + n
+    let high = x / 100000000;
+    let low = (x % 100000000) as u32;
+    if high < 100000000 {
+        let behind = below_eight(out, at, high as u32);
+        return put_eight(out, behind, low);
+    }
+    let first = below_myriad(out, at, (high / 100000000) as u32);
+    let second = put_eight(out, first, (high % 100000000) as u32);
+    put_eight(out, second, low)
 }
 
 // A number and the byte behind it.
@@ -102,6 +112,11 @@ fn number(out: &mut [u8], at: usize, x: u64, behind: u8) -> usize
     requires { ⌜ at + mostNumber ≤ length (now out) ⌝ }
     ensures { λ r. ⌜ Stands (now (out .entry)) at (digits x ++ (behind ∷ [])) (now (out .exit)) r ⌝ }
 {
+    if x < 10 {
+        out[at] = b'0' + x as u8;
+        out[at + 1] = behind;
+        return at + 2;
+    }
     let end = decimal(out, at, x);
     out[end] = behind;
     end + 1

@@ -1,87 +1,79 @@
--- The loop has passed the moments up to a clock, and t is the next one.
-use mathlib.Core.Path.{_≡_, refl, _∙_}
-use Prim.Native.Nat.{ℕ, _-_}
+-- The loop has passed the moments up to a clock, and t is the time of the next change.
+use mathlib.Core.Path.{_≡_}
+use Prim.Native.Nat.{ℕ, _+_, _-_, _*_, _/_}
 use native.Mathlib.Omega.{arith}
-use lib.ListN.{length}
-use Rattle.rules.specs.Records.{mostEvents}
-use Rattle.calls.specs.Slots.{scheduleOf}
-use Rattle.calls.specs.Columns.{nextOf}
-use Rattle.calls.specs.Held.{columnsOf}
-use Rattle.calls.specs.Live.{slotsAt}
-use Rattle.calls.proofs.Advancing.{Going, begin, numbered, below, ids-ascend, after-now, room, step, stop}
+use lib.Bits.{bitOr}
+use lib.ListN.{getD}
+use Rattle.calls.specs.Sets.{setWidth}
+use Rattle.calls.specs.Agenda.{TakenTo, secondWidth}
+use Rattle.calls.proofs.Changes.{stops-ends, stops-starts}
+use Rattle.calls.proofs.Advancing.{Going, start, next-later, ahead, step, stop}
 use Rattle.calls.proofs.advance.moments.Statement.{statement}
 use Rattle.calls.proofs.advance.moments.Tie as tie
 
 abbrev Inv-loop : tie.InvT-loop
-Inv-loop slots places to rows₀ held₀ n from programs begins ends carried kept₀ codes₀ limit t₀ at₀ rows held kept codes t at =
-    (clock : ℕ)
-    × Going (scheduleOf (record { clock = from; count = n; programs = programs }) (slotsAt slots places)) to n (columnsOf programs (slotsAt slots places) begins ends carried) rows₀ rows held clock at
-    × (t ≡ nextOf clock limit n begins ends)
-    × (length held ≡ mostEvents)
-    × (length kept ≡ mostEvents)
-    × (length codes ≡ mostEvents)
+Inv-loop d slots₀ to agenda rows₀ s₀ ended₀ k₀ t₀ slots rows s ended k t = (clock : ℕ) × Going d slots₀ to agenda rows₀ slots rows s ended clock k × (t ≡ getD agenda k 0 / secondWidth)
 
 abbrev μ-loop : tie.MeasureT-loop
-μ-loop slots places to rows₀ held₀ n from programs begins ends carried kept₀ codes₀ limit t₀ at₀ rows held kept codes t at = limit - t
+μ-loop d slots₀ to agenda rows₀ s₀ ended₀ k₀ t₀ slots rows s ended k t = to + 1 - t
 
-columns-of-requires : tie.Need-columns-of-requires Inv-loop μ-loop
-columns-of-requires c κs =
-    let pre = c .before .before .before .before .before .pre in
-    (pre .0 .2 .used .few, pre .0 .0, pre .0 .1, refl, refl, refl, pre .1 .3)
+-- the places of a turn, each from the last
+abbrev turn : tie.After-take Inv-loop μ-loop → tie.In-loop Inv-loop μ-loop
+turn c = c .before .before
 
-add-limit : tie.Need-add-limit Inv-loop μ-loop
-add-limit c = record { fits = omega (arith, c .before .before .before .before .before .before .pre .1 .1) }
+abbrev ended : tie.After-take2 Inv-loop μ-loop → tie.After-take Inv-loop μ-loop
+ended c = c .before .before
 
-next-moment-requires : tie.Need-next-moment-requires Inv-loop μ-loop
-next-moment-requires c κs = c .before .before .before .before .before .before .before .before .pre .0 .2 .used .few
+abbrev due : tie.After-moment Inv-loop μ-loop → tie.After-take2 Inv-loop μ-loop
+due c = c .before .before .before
+
+-- what ends, and what starts
+taken : (c : tie.After-take Inv-loop μ-loop) → let l = turn c .before in TakenTo (l .before .before .before .before .args .agenda .now) (l .loop .k) (l .loop .t * secondWidth + setWidth) (c .take .result)
+taken c = rw (c .before .after-ends .ensures) at (c .take .ensures)
+
+taken-then : (c : tie.After-take2 Inv-loop μ-loop) → let l = turn (ended c) .before in TakenTo (l .before .before .before .before .args .agenda .now) (ended c .take .result .next) (l .loop .t * secondWidth + secondWidth) (c .take2 .result)
+taken-then c = rw (c .before .after-starts .ensures) at (c .take2 .ensures)
+
+-- after the moment
+passed : (c : tie.After-moment Inv-loop μ-loop) → let l = turn (ended (due c)) .before in let a = l .before .before .before .before .args in
+    Going (a .d) (a .slots .now) (a .to) (a .agenda .now) (a .rows .now) (c .moment .last .1 .0) (c .moment .last .1 .1 .1 .1 .1 .0) (c .moment .result) (bitOr (l .loop .ended) (ended (due c) .take .result .places)) (l .loop .t) (due c .take2 .result .next)
+passed c =
+    let l = turn (ended (due c)) .before .loop in
+    step (l .inv .1) (l .t) (l .inv .2) (turn (ended (due c)) .loop-test .taken) (taken (ended (due c))) (taken-then (due c)) (c .moment .ensures)
 
 loop-holds : tie.Need-loop-holds Inv-loop μ-loop
 loop-holds c =
-    let a = c .before .before .before .before .before .before .before .before .before .args in
-    let pre = c .before .before .before .before .before .before .before .before .before .pre in
-    let dated = c .before .before .before .columns-of .ensures in
-    (a .d .clock, begin (pre .0 .2) (pre .0 .3) _ _ _ _ dated (a .to) (a .rows .now) (pre .1 .0) (pre .1 .1) (pre .1 .2), c .next-moment .ensures, dated .long .3, refl, refl)
+    let entry = c .before .before .before in
+    let p = entry .pre in
+    (entry .args .d .clock, start (p .0 .0) (p .0 .1) (p .1 .0) (p .1 .1) (p .1 .2) (c .before .holders .ensures), c .time-at .ensures)
 
-claims-at-requires : tie.Need-claims-at-requires Inv-loop μ-loop
-claims-at-requires c κs = let v = c .before .before .before .before .before .before .loop .inv in (below (v .1), v .4)
+take-requires : tie.Need-take-requires Inv-loop μ-loop
+take-requires c κs =
+    let l = c .before .before .loop in
+    let g = l .inv .1 in
+    rw (c .after-ends .ensures) (stops-ends (g .planned) (g .ready .used .few) (g .last) (g .reached) (g .from) (l .inv .2) (c .before .loop-test .taken))
 
-settle-requires : tie.Need-settle-requires Inv-loop μ-loop
-settle-requires c κs =
-    let pre = c .before .before .before .before .before .before .before .before .before .before .before .before .before .before .before .before .before .before .pre in
-    let g = c .before .before .before .before .before .before .before .before .loop .inv .1 in
-    let claims = c .before .claims-at .ensures in
-    (below g, (claims .0 .size, (claims .1, ((pre .0 .0, pre .0 .1), (ids-ascend g, numbered (pre .0 .2))))))
+take-requires-2 : tie.Need-take-requires-2 Inv-loop μ-loop
+take-requires-2 c κs =
+    let first = c .before in
+    let l = turn first .before .loop in
+    let g = l .inv .1 in
+    rw (c .after-starts .ensures) (stops-starts (g .planned) (g .ready .used .few) (g .last) (g .reached) (g .from) (l .inv .2) (turn first .loop-test .taken) (taken first))
 
-codes-at-requires : tie.Need-codes-at-requires Inv-loop μ-loop
-codes-at-requires c κs = let v = c .before .before .before .before .before .before .before .before .before .before .before .before .before .before .loop .inv in (below (v .1), v .5)
-
-rows-at-requires : tie.Need-rows-at-requires Inv-loop μ-loop
-rows-at-requires c κs =
-    let pre = c .before .before .before .before .before .before .before .before .before .before .before .before .before .before .before .before .before .before .before .before .before .before .before .before .before .before .before .pre in
-    let v = c .before .before .before .before .before .before .before .before .before .before .before .before .before .before .before .before .before .loop .inv in
-    let codes = c .before .before .codes-at .ensures in (
-      (below (v .1), v .1 .written .size ∙ v .1 .size, pre .0 .0, pre .0 .1, codes .1),
-      room (v .1) _ (v .2) (omega (arith, c .before .before .before .before .before .before .before .before .before .before .before .before .before .before .before .before .loop-test .taken)) _ _ _ (c .before .before .before .before .before .before .before .before .before .before .claims-at .ensures .0) (c .before .before .before .before .before .before .before .before .settle .ensures .1) (codes .0),
-    )
+moment-requires : tie.Need-moment-requires Inv-loop μ-loop
+moment-requires c κs =
+    let then = c .before .before in
+    let l = turn (ended then) .before .loop in
+    ahead (l .inv .1) (l .t) (l .inv .2) (turn (ended then) .loop-test .taken) (taken (ended then)) (taken-then then)
 
 loop-less : tie.Need-loop-less Inv-loop μ-loop
-loop-less c =
-    let v = c .before .before .before .before .before .before .before .before .before .before .before .before .before .before .before .before .before .before .loop .inv in
-    let codes = c .before .before .before .codes-at .ensures in
-    let g = step (v .1) _ (v .2) (omega (arith, c .before .before .before .before .before .before .before .before .before .before .before .before .before .before .before .before .before .loop-test .taken)) _ _ _ (c .before .before .before .before .before .before .before .before .before .before .before .claims-at .ensures .0) (c .before .before .before .before .before .before .before .before .before .settle .ensures .1) (codes .0) _ _ (c .rows-at .ensures) in
-    omega (arith, after-now g _ (c .before .before .before .before .before .before .before .before .before .before .before .claims-at .ensures .2) .0, c .before .before .before .before .before .before .before .before .before .before .before .before .before .before .before .before .before .loop-test .taken)
+loop-less c = let at = turn (ended (due (c .before .before))) in omega (arith, next-later (passed (c .before .before)) (c .time-at2 .result) (c .time-at2 .ensures), at .loop-test .taken)
 
 loop-again : tie.Need-loop-again Inv-loop μ-loop
-loop-again c =
-    let l = c .before .before .before .before .before .before .before .before .before .before .before .before .before .before .before .before .before .before .loop in
-    let v = l .inv in
-    let codes = c .before .before .before .codes-at .ensures in
-    let kept = c .before .before .before .before .before .before .before .before .before .settle .ensures in
-    let claims = c .before .before .before .before .before .before .before .before .before .before .before .claims-at .ensures in
-    (l .t, step (v .1) _ (v .2) (omega (arith, c .before .before .before .before .before .before .before .before .before .before .before .before .before .before .before .before .before .loop-test .taken)) _ _ _ (claims .0) (kept .1) (codes .0) _ _ (c .rows-at .ensures), claims .2, kept .0, kept .0, codes .0 .size)
+loop-again c = (turn (ended (due (c .before .before))) .before .loop .t, passed (c .before .before), c .time-at2 .ensures)
 
 returns : tie.Need-returns Inv-loop μ-loop
-returns c = let v = c .before .loop .inv in stop (v .1) _ (v .2) (omega (arith, c .loop-test .left)) (v .3)
+returns c = let l = c .before .loop in stop (l .inv .1) (l .t) (l .inv .2) (omega (arith, c .loop-test .left))
 
 pub moments-spec : {M : Type 1} → statement M
 moments-spec =
@@ -89,14 +81,15 @@ moments-spec =
     (tie.spec
     Inv-loop
     μ-loop
-    columns-of-requires
-    add-limit
-    next-moment-requires
+    (λ c κs. c .before .pre .0 .0 .used)
+    (λ c κs. omega arith)
     loop-holds
-    claims-at-requires
-    settle-requires
-    codes-at-requires
-    rows-at-requires
+    (λ c κs. omega (arith, c .loop-test .taken, c .before .loop .inv .1 .last))
+    take-requires
+    (λ c κs. omega (arith, turn c .loop-test .taken, turn c .before .loop .inv .1 .last))
+    take-requires-2
+    moment-requires
+    (λ c κs. due (c .before) .take2 .ensures .inside)
     loop-less
     loop-again
     returns)

@@ -7,13 +7,15 @@ use native.Mathlib.Omega.{arith}
 use borrow.Author.Needs.{needs}
 use borrow.Author.Tests.{not-true, not-false}
 use lib.ListN.{getD, set, length-set}
+use Rattle.rules.specs.declared.Answer.the-variants.{Code}
 use Rattle.rules.specs.declared.Entry.{Entry}
-use Rattle.rules.specs.Records.{mostEvents, idNumber}
+use Rattle.rules.specs.Records.{mostEvents}
 use Rattle.rules.specs.Refusals.{cancelChecks}
 use Rattle.rules.specs.Calls.{cancel, code, does, checks, call}
 use Rattle.calls.specs.declared.held.Head.{Head}
 use Rattle.calls.specs.declared.events.Place.{Place}
-use Rattle.calls.specs.Slots.{entryOf, slotState, scheduleOf, InUse, Ready}
+use Rattle.calls.specs.Answered.{Acts}
+use Rattle.calls.specs.Slots.{entryOf, slotState, scheduleOf, Ready}
 use Rattle.calls.specs.Found.{Found}
 use Rattle.calls.proofs.Slots.{within, slot-at, sound-of}
 use Rattle.calls.proofs.Placing.{stopped, put-over}
@@ -21,24 +23,32 @@ use Rattle.calls.proofs.Acting.{refuses, does-it, found, inside}
 use Rattle.calls.proofs.events.cancel.Statement.{statement}
 use Rattle.calls.proofs.events.cancel.Tie as tie
 
+-- the answer's code is that of the definition
+coded : (m : Bool) → code (cond m 0 6) ≡ cond m (code 0) (code 6)
+coded true = refl
+coded false = refl
+
 -- the event h in its slot is stopped there
 marks : {d : Head} {w : List (List ℕ)} {i : ℕ} {p : Place} → Ready d w → Found (slotState d w .entries) i p → p .held ≡ true
-    → (h : Entry) → h ≡ entryOf (getD w (p .at) []) → (x : List ℕ) → entryOf x ≡ stopped h → (m : Bool) → h .cancelled ≡ m
-    → record { number = 0; value = cond m (code 0) (code 6); state = scheduleOf d (set w (p .at) x); bytes = []; records = [] } ≡ call (scheduleOf d w) (cancel i)
+    → {h : Entry} → h ≡ entryOf (getD w (p .at) []) → (x : List ℕ) → entryOf x ≡ stopped h → {m : Bool} → h .cancelled ≡ m
+    → Acts (record { answer = Code (cond m 0 6); head = d }) (set w (p .at) x) [] (call (scheduleOf d w) (cancel i))
 unfolding does checks cancelChecks
-marks {d} {w} {i} {p} r f b h is x e m q =
+marks {d} {w} {i} {p} r f b is x e q =
     let l = inside r f b .0 in
-    let old = found r f in
+    let old = found r f b in
     let same = slot-at w (d .count) (within r) (p .at) l ∙ sym is in
     let over = put-over w (d .count) (within r) (p .at) x l (sound-of r .ids) (e ∙ ap stopped (sym same)) in
-    rw (over, f .held b .1, ← q, ← same) (rw (old, b) at (sym (does-it r (cancel i) (rw (old, b)))))
+    record {
+      used = record { few = r .used .few; size = length-set w (p .at) x ∙ r .used .size };
+      outcome = rw (coded, over, f .held b .1, ← q, ← same) (rw old at (sym (does-it r (cancel i) (rw old))));
+    }
 
 returns : tie.Need-returns
 unfolding checks cancelChecks
 returns c =
     let place = c .before .before in
     let start = place .before .before in
-    refuses (start .pre) (cancel (idNumber (start .args .id))) 11 refl refl (rw (found (start .pre) (place .place-of .ensures), not-true (place .place-of .result .held) (c .if1 .taken)))
+    refuses (start .pre) _ 11 refl refl (rw (found (start .pre) (place .place-of .ensures) (not-true _ (c .if1 .taken))))
 
 -- the place that was found, and where the function begins
 abbrev placed : (c : tie.Else1) → tie.After-place-of
@@ -47,43 +57,24 @@ placed c = c .before .before
 abbrev start : (c : tie.Else1) → tie.Start
 start c = placed c .before .before
 
-held : (c : tie.Else1) → placed c .place-of .result .held ≡ true
-held c = not-false (placed c .place-of .result .held) (c .if1 .left)
-
 there : (c : tie.Else1) → let d = start c .args .d in (placed c .place-of .result .at < d .count) × (d .count ≤ mostEvents)
-there c = inside (start c .pre) (placed c .place-of .ensures) (held c)
+there c = inside (start c .pre) (placed c .place-of .ensures) (not-false _ (c .if1 .left))
 
 -- the event in the slot was read, and one with its mark set was made
 abbrev else : (c : tie.After-slot-of) → tie.Else1
 else c = c .before .before .before .before
 
-marked : (c : tie.After-slot-of) (m : Bool) → let a = start (else c) .args in
-    let at = placed (else c) .place-of .result .at in
-    c .before .before .entry-of .result .cancelled ≡ m
-    → record {
-      number = 0;
-      value = cond m (code 0) (code 6);
-      state = scheduleOf (a .d) (set (a .slots .now) at (c .slot-of .result));
-      bytes = [];
-      records = [];
-    }
-    ≡ call (scheduleOf (a .d) (a .slots .now)) (cancel (idNumber (a .id)))
-marked c m q =
-    let place = placed (else c) .place-of in
-    let old = c .before .before .entry-of in
-    marks (start (else c) .pre) (place .ensures) (held (else c)) (old .result) (old .ensures) (c .slot-of .result) (c .slot-of .ensures) m q
-
--- as many slots as before
-used : (c : tie.After-slot-of) → let a = start (else c) .args in InUse (a .d .count) (set (a .slots .now) (placed (else c) .place-of .result .at) (c .slot-of .result))
-used c =
-    let begun = start (else c) in
-    record { few = begun .pre .used .few; size = length-set (begun .args .slots .now) _ _ ∙ begun .pre .used .size }
-
 returns-2 : tie.Need-returns-2
-returns-2 c = record { used = used (c .before); outcome = marked (c .before) true (c .if2 .taken) }
+returns-2 c =
+    let made = c .before in
+    let at = else made in
+    marks (start at .pre) (placed at .place-of .ensures) (not-false _ (at .if1 .left)) (made .before .before .entry-of .ensures) _ (made .slot-of .ensures) (c .if2 .taken)
 
 returns-3 : tie.Need-returns-3
-returns-3 c = record { used = used (c .before); outcome = marked (c .before) false (c .if2 .left) }
+returns-3 c =
+    let made = c .before in
+    let at = else made in
+    marks (start at .pre) (placed at .place-of .ensures) (not-false _ (at .if1 .left)) (made .before .before .entry-of .ensures) _ (made .slot-of .ensures) (c .if2 .left)
 
 pub cancel-spec : {M : Type 1} → statement M
 cancel-spec =
@@ -93,8 +84,8 @@ cancel-spec =
     returns
     (λ c. omega (arith, there c))
     (λ c. omega (arith, there c))
-    (λ c κs. search needs)
-    (λ c κs. search needs)
+    (search needs)
+    (search needs)
     (λ c. omega (arith, there (else c)))
     (λ c. omega (arith, there (else c)))
     returns-2

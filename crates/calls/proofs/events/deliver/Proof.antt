@@ -1,9 +1,9 @@
 -- A number that applies is given. Else the event is held already, and nothing changes, or it is taken in.
 use mathlib.Core.Path.{_≡_, refl, sym, ap, _∙_}
 use mathlib.Core.Bool.{Bool, true, false, cond}
-use mathlib.Core.List.{List, []}
+use mathlib.Core.List.{[]}
 use mathlib.Core.Option.{Option, none, some}
-use Prim.Native.Nat.{ℕ, _<_, min}
+use Prim.Native.Nat.{_<_, min}
 use native.Mathlib.Omega.{arith}
 use borrow.Author.Needs.{needs}
 use borrow.Author.Tests.{ne-eqb}
@@ -12,12 +12,10 @@ use Rattle.rules.specs.declared.Event.{Event}
 use Rattle.rules.specs.declared.Entry.{Entry}
 use Rattle.rules.specs.Records.{State, mostEvents, idOf, lastClock, noEntry}
 use Rattle.rules.specs.Period.{periodOf}
-use Rattle.rules.specs.Refusals.{firstOf, find}
-use Rattle.rules.specs.Calls.{Done, deliver, entry, received, receive, checks, does, accepted, call}
-use Rattle.calls.specs.declared.held.Head.{Head}
-use Rattle.calls.specs.declared.events.Place.{Place}
-use Rattle.calls.specs.Slots.{slotState, scheduleOf, Ready}
-use Rattle.calls.specs.Found.{Found, CanOpen}
+use Rattle.rules.specs.Refusals.{find}
+use Rattle.rules.specs.Calls.{Done, deliver, entry, received, receive, does, accepted, call}
+use Rattle.calls.specs.Slots.{slotState, scheduleOf}
+use Rattle.calls.specs.Found.{CanOpen}
 use Rattle.calls.proofs.Slots.{count-of, sound-of}
 use Rattle.calls.proofs.Placing.{put-in, put-in-long}
 use Rattle.calls.proofs.Acting.{refuses, does-it, room, found}
@@ -28,15 +26,6 @@ use Rattle.calls.proofs.events.deliver.Tie as tie
 abbrev delivered : State → Event → Option Entry → Done
 delivered s e old = record { state = receive s e old; value = received old; bytes = []; records = [] }
 
--- past every number, what the call does with what is held
-taken-in : {d : Head} {w : List (List ℕ)} {p : Place} (e : Event) → Ready d w → Found (slotState d w .entries) (idOf e) p → firstOf (checks (slotState d w) (deliver e)) ≡ 0
-    → (b : Bool) → p .held ≡ b → accepted (delivered (slotState d w) e (cond b (some (getD (slotState d w .entries) (p .at) noEntry)) none)) ≡ call (scheduleOf d w) (deliver e)
-unfolding does
-taken-in e r f z b q = rw (found r f, q) at (sym (does-it r (deliver e) z))
-
-not-held : {d : Head} {w : List (List ℕ)} {i : ℕ} {p : Place} → Ready d w → Found (slotState d w .entries) i p → p .held ≡ false → find i (slotState d w .entries) ≡ none
-not-held r f q = rw q at (found r f)
-
 -- the place that was found, and where the function begins
 abbrev placed : (c : tie.After-number) → tie.After-place-of
 placed c = c .before .before
@@ -46,23 +35,25 @@ start c = placed c .before .before
 
 returns : tie.Need-returns
 returns c =
-    let begun = start (c .before) in
     let n = c .before .number in
-    refuses (begun .pre) (deliver (begun .args .e)) (n .result) (ne-eqb (n .result) 0 (c .if1 .taken)) refl (n .ensures)
+    refuses (start (c .before) .pre) _ (n .result) (ne-eqb (n .result) 0 (c .if1 .taken)) refl (n .ensures)
 
+-- past every number, what the call does with what is held
 acts : (c : tie.Else1) (b : Bool) → let a = start (c .before) .args in let p = placed (c .before) .place-of .result in
     let s = slotState (a .d) (a .slots .now) in
     p .held ≡ b → accepted (delivered s (a .e) (cond b (some (getD (s .entries) (p .at) noEntry)) none)) ≡ call (scheduleOf (a .d) (a .slots .now)) (deliver (a .e))
+unfolding does
 acts c b q =
-    let begun = start (c .before) in
-    taken-in (begun .args .e) (begun .pre) (placed (c .before) .place-of .ensures) (sym (c .before .number .ensures) ∙ c .if1 .left) b q
+    let number = c .before in
+    let begun = start number in
+    rw (found (begun .pre) (placed number .place-of .ensures) q) at (sym (does-it (begun .pre) (deliver (begun .args .e)) (sym (number .number .ensures) ∙ c .if1 .left)))
 
 returns-2 : tie.Need-returns-2
 returns-2 c = record { used = start (c .before .before) .pre .used; outcome = acts (c .before) true (c .if2 .taken) }
 
 -- what is not held is taken in at its place, and there is room
 free : (c : tie.Else2) → let a = start (c .before .before) .args in find (idOf (a .e)) (slotState (a .d) (a .slots .now) .entries) ≡ none
-free c = let number = c .before .before in not-held (start number .pre) (placed number .place-of .ensures) (c .if2 .left)
+free c = let number = c .before .before in found (start number .pre) (placed number .place-of .ensures) (c .if2 .left)
 
 fits : (c : tie.Else2) → let a = start (c .before .before) .args in CanOpen (placed (c .before .before) .place-of .result .at) (a .d .count) (a .slots .now)
 fits c =
@@ -106,4 +97,4 @@ returns-3 c =
 pub deliver-spec : {M : Type 1} → statement M
 deliver-spec =
     tie.close
-    (tie.spec (λ c κs. search needs) (λ c κs. search needs) returns returns-2 (λ c κs. search needs) (λ c κs. search needs) put-in-requires (λ c. search needs) returns-3)
+    (tie.spec (λ c κs. search needs) (λ c κs. search needs) returns returns-2 (search needs) (search needs) put-in-requires (search needs) returns-3)

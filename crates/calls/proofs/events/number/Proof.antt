@@ -1,7 +1,7 @@
 -- The tests in their order: each number is given where the tests before it have failed.
 use mathlib.Core.Path.{_≡_, sym, _∙_}
 use mathlib.Core.Bool.{Bool, true, false, cond, not, _&&_}
-use mathlib.Core.List.{List, [], _∷_}
+use mathlib.Core.List.{[], _∷_}
 use mathlib.Core.Option.{Option, none, some}
 use Prim.Native.Nat.{ℕ, _<_, _≤_}
 use native.Mathlib.Omega.{arith}
@@ -11,14 +11,10 @@ use lib.Dec.{leb}
 use lib.ListN.{length, getD}
 use Rattle.rules.specs.declared.Event.{Event}
 use Rattle.rules.specs.declared.Entry.{Entry}
-use Rattle.rules.specs.Records.{State, mostEvents, lastProgram, idOf, noEntry, programAt}
-use Rattle.rules.specs.Sound.{malformed}
+use Rattle.rules.specs.Records.{State, mostEvents, lastProgram, noEntry}
 use Rattle.rules.specs.Refusals.{_if_, firstOf, isNone, differs, late, eventChecks}
 use Rattle.rules.specs.Calls.{deliver, checks}
-use Rattle.calls.specs.declared.held.Head.{Head}
-use Rattle.calls.specs.declared.events.Place.{Place}
 use Rattle.calls.specs.Slots.{slotState}
-use Rattle.calls.specs.Found.{FoundIn}
 use Rattle.calls.proofs.Slots.{within, slot-at, count-of, sound-of}
 use Rattle.calls.proofs.Acting.{found, inside}
 use Rattle.calls.proofs.events.number.Statement.{statement}
@@ -28,21 +24,6 @@ use Rattle.calls.proofs.events.number.Tie as tie
 abbrev rest : State → Event → Option Entry → ℕ
 rest s e o =
     firstOf (8 if differs o e ∷ 9 if (isNone o && late (s .clock) e) ∷ 10 if (isNone o && leb mostEvents (length (s .entries))) ∷ [])
-
--- past 7 the number hangs on what is held
-hangs : {d : Head} {w : List (List ℕ)} {p : Place} (e : Event) → FoundIn d w (idOf e) p → (b : Bool) → p .held ≡ b
-    → e .program ≤ lastProgram → not (programAt (d .programs) (e .program) .added) ≡ false → malformed e ≡ false
-    → firstOf (checks (slotState d w) (deliver e)) ≡ rest (slotState d w) e (cond b (some (getD (slotState d w .entries) (p .at) noEntry)) none)
-unfolding checks eventChecks
-hangs e f b q n a m = rw (found (f .ready) (f .found), q, le-ltb lastProgram _ n, a, m)
-
-returns : tie.Need-returns
-unfolding checks eventChecks
-returns c = sym (rw (lt-ltb lastProgram _ (c .if1 .taken)))
-
-returns-2 : tie.Need-returns-2
-unfolding checks eventChecks
-returns-2 c = sym (rw (le-ltb lastProgram _ (c .before .before .before .before .if1 .left), c .if2 .taken))
 
 -- past 6: the program has a number, and where the function begins
 abbrev numbered : (c : tie.Else2) → tie.Else1
@@ -57,81 +38,68 @@ returns-3 c =
     let added = c .before .before in
     sym (rw (le-ltb lastProgram _ (numbered added .if1 .left), added .if2 .left, sym (c .before .is-malformed .ensures) ∙ c .if3 .taken))
 
+-- past 7 the number hangs on what is held
 past : (c : tie.Else3) (b : Bool) → let a = start (c .before .before) .args in
     let s = slotState (a .t1) (a .slots .now) in
     a .p .held ≡ b → firstOf (checks s (deliver (a .e))) ≡ rest s (a .e) (cond b (some (getD (s .entries) (a .p .at) noEntry)) none)
+unfolding checks eventChecks
 past c b q =
     let added = c .before .before in
-    hangs (start added .args .e) (start added .pre) b q (numbered added .if1 .left) (added .if2 .left) (sym (c .before .is-malformed .ensures) ∙ c .if3 .left)
+    let pre = start added .pre in
+    rw (found (pre .ready) (pre .found) q, le-ltb lastProgram _ (numbered added .if1 .left), added .if2 .left, sym (c .before .is-malformed .ensures) ∙ c .if3 .left)
 
 there : (c : tie.Then4) → let a = start (c .before .before .before) .args in (a .p .at < a .t1 .count) × (a .t1 .count ≤ mostEvents)
 there c = let pre = start (c .before .before .before) .pre in inside (pre .ready) (pre .found) (c .if4 .taken)
 
 -- an event that is held already, compared
-abbrev held : (c : tie.After-equals) → tie.Then4
-held c = c .before .before .before
-
-compared : (c : tie.After-equals) → let a = start (held c .before .before .before) .args in
+compared : (c : tie.After-equals) → let held = c .before .before .before in let a = start (held .before .before .before) .args in
     firstOf (checks (slotState (a .t1) (a .slots .now)) (deliver (a .e))) ≡ cond (not (c .equals .result)) 8 0
 compared c =
-    let begun = start (held c .before .before .before) in
+    let held = c .before .before .before in
+    let begun = start (held .before .before .before) in
     let a = begun .args in
-    past (held c .before) true (held c .if4 .taken)
-    ∙ rw (slot-at (a .slots .now) (a .t1 .count) (within (begun .pre .ready)) (a .p .at) (there (held c) .0), ← c .before .entry-of .ensures, sym (c .equals .ensures))
-
-returns-4 : tie.Need-returns-4
-returns-4 c = sym (compared (c .before) ∙ rw (c .if5 .taken))
-
-returns-5 : tie.Need-returns-5
-returns-5 c = sym (compared (c .before) ∙ rw (c .if5 .left))
-
-is-late-requires : tie.Need-is-late-requires
-is-late-requires c κs = sound-of (start (c .before .before .before) .pre .ready) .clock
+    past (held .before) true (held .if4 .taken)
+    ∙ rw (slot-at (a .slots .now) (a .t1 .count) (within (begun .pre .ready)) (a .p .at) (there held .0), ← c .before .entry-of .ensures, sym (c .equals .ensures))
 
 returns-6 : tie.Need-returns-6
 returns-6 c =
     let new = c .before .before in
     sym (past (new .before) false (new .if4 .left) ∙ rw (sym (c .before .is-late .ensures) ∙ c .if6 .taken))
 
--- an event that is not held, and not late
-abbrev new : (c : tie.Else6) → tie.Else4
-new c = c .before .before
-
--- past 9 there is room or not
-soon : (c : tie.Else6) → let a = start (new c .before .before .before) .args in
+-- an event that is not held, and not late: there is room or not
+soon : (c : tie.Else6) → let new = c .before .before in let a = start (new .before .before .before) .args in
     firstOf (checks (slotState (a .t1) (a .slots .now)) (deliver (a .e))) ≡ cond (leb mostEvents (a .t1 .count)) 10 0
 soon c =
-    let begun = start (new c .before .before .before) in
-    past (new c .before) false (new c .if4 .left)
-    ∙ rw (sym (c .before .is-late .ensures) ∙ c .if6 .left, count-of (begun .pre .ready))
-
-returns-7 : tie.Need-returns-7
-returns-7 c = sym (soon (c .before) ∙ rw (c .if7 .taken))
+    let new = c .before .before in
+    past (new .before) false (new .if4 .left)
+    ∙ rw (sym (c .before .is-late .ensures) ∙ c .if6 .left, count-of (start (new .before .before .before) .pre .ready))
 
 returns-8 : tie.Need-returns-8
 returns-8 c =
-    let begun = start (new (c .before) .before .before .before) in
+    let new = c .before .before .before in
+    let begun = start (new .before .before .before) in
     let room : begun .args .t1 .count < mostEvents = omega (arith, c .if7 .left, begun .pre .ready .used .few) in
     sym (soon (c .before) ∙ rw (lt-leb mostEvents (begun .args .t1 .count) room))
 
 pub number-spec : {M : Type 1} → statement M
+unfolding checks eventChecks
 number-spec =
     tie.close
     (tie.spec
-    returns
-    (λ c. search needs)
-    (λ c. search needs)
-    (λ c. search needs)
-    returns-2
-    (λ c κs. search needs)
+    (λ c. sym (rw (lt-ltb lastProgram _ (c .if1 .taken))))
+    (search needs)
+    (search needs)
+    (search needs)
+    (λ c. sym (rw (le-ltb lastProgram _ (c .before .before .before .before .if1 .left), c .if2 .taken)))
+    (search needs)
     returns-3
     (λ c. omega (arith, there c))
     (λ c. omega (arith, there c))
-    (λ c κs. search needs)
-    (λ c κs. search needs)
-    returns-4
-    returns-5
-    is-late-requires
+    (search needs)
+    (search needs)
+    (λ c. sym (compared (c .before) ∙ rw (c .if5 .taken)))
+    (λ c. sym (compared (c .before) ∙ rw (c .if5 .left)))
+    (λ c κs. sound-of (start (c .before .before .before) .pre .ready) .clock)
     returns-6
-    returns-7
+    (λ c. sym (soon (c .before) ∙ rw (c .if7 .taken)))
     returns-8)

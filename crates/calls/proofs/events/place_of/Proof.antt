@@ -43,4 +43,4 @@ returns-2 c =
     }
 
 pub place-of-spec : {M : Type 1} → statement M
-place-of-spec = tie.close (tie.spec (λ c κs. search needs) returns (λ c κs. search needs) (λ c κs. search needs) returns-2)
+place-of-spec = tie.close (tie.spec (search needs) returns (search needs) (search needs) returns-2)

@@ -1,13 +1,9 @@
 -- The number of the slot is the creation time of the event in it.
-use mathlib.Core.Path.{refl}
 use borrow.Author.Needs.{needs}
 use Rattle.calls.specs.Slots.{entryOf}
 use Rattle.calls.proofs.held.created_at.Statement.{statement}
 use Rattle.calls.proofs.held.created_at.Tie as tie
 
-returns : tie.Need-returns
-unfolding entryOf
-returns c = refl
-
 pub created-at-spec : {M : Type 1} → statement M
-created-at-spec = tie.close (tie.spec (λ c. search needs) (λ c. search needs) (λ c. search needs) (λ c. search needs) returns)
+unfolding entryOf
+created-at-spec = tie.close (tie.spec (search needs) (search needs) (search needs) (search needs) (search needs))

@@ -5,7 +5,7 @@ use native.Mathlib.Omega.{arith}
 use borrow.Author.Needs.{needs}
 use lib.ListN.{replicate}
 use Rattle.rules.specs.Records.{mostEvents}
-use Rattle.calls.proofs.Laid.{laid, laid-more, laid-all}
+use Rattle.calls.proofs.Slots.{laid, laid-more, laid-all}
 use Rattle.calls.proofs.held.put_together.Statement.{statement}
 use Rattle.calls.proofs.held.put_together.Tie as tie
 
@@ -38,14 +38,14 @@ put-together-spec =
     (tie.spec
     Inv-loop
     μ-loop
-    (λ c κs. search needs)
+    (search needs)
     loop-holds
-    (λ c. search needs)
-    (λ c. search needs)
-    (λ c κs. search needs)
-    (λ c. search needs)
-    (λ c. search needs)
-    (λ c. search needs)
-    (λ c. search needs)
+    (search needs)
+    (search needs)
+    (search needs)
+    (search needs)
+    (search needs)
+    (search needs)
+    (search needs)
     loop-again
     returns)

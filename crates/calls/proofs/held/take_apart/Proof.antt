@@ -8,7 +8,7 @@ use lib.ListN.{length, take, set, length-set}
 use Rattle.rules.specs.Records.{mostEvents}
 use Rattle.rules.proofs.SoundState.{rules}
 use Rattle.calls.specs.Slots.{entryOf, InUse}
-use Rattle.calls.proofs.Laid.{slot-more, apart-of}
+use Rattle.calls.proofs.Slots.{slot-more, apart-of}
 use Rattle.calls.proofs.held.take_apart.Statement.{statement}
 use Rattle.calls.proofs.held.take_apart.Tie as tie
 
@@ -42,12 +42,12 @@ take-apart-spec =
     Inv-loop
     μ-loop
     loop-holds
-    (λ c. search needs)
-    (λ c. search needs)
-    (λ c κs. search needs)
-    (λ c. search needs)
-    (λ c. search needs)
-    (λ c. search needs)
-    (λ c. search needs)
+    (search needs)
+    (search needs)
+    (search needs)
+    (search needs)
+    (search needs)
+    (search needs)
+    (search needs)
     loop-again
     returns)

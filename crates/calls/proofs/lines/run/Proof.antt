@@ -59,9 +59,6 @@ within c =
     let line = found c .next-line .ensures in
     omega (arith, fitting c .before .if1 .left, line .end, end-within (start (at .before .before) .args .lines .now) (at .loop .from) (at .loop .inv .0 .within))
 
-add-from : tie.Need-add-from Inv-loop μ-loop
-add-from c = omega (arith, start (found c .before .before .before .before) .good, within c)
-
 loop-again : tie.Need-loop-again Inv-loop μ-loop
 loop-again c =
     let l = found c .before .before .loop in
@@ -94,12 +91,12 @@ run-spec =
     Inv-loop
     μ-loop
     (λ c κs. record { good = c .before .before .before .pre; size = refl })
-    (λ c κs. search needs)
+    (search needs)
     loop-holds
     (λ c κs. c .before .loop .inv .0 .within)
     (λ c. let l = c .before .before .before .loop in omega (arith, running-size (l .inv .0), l .inv .0 .fits))
     tell-requires
-    add-from
+    (λ c. omega (arith, start (found c .before .before .before .before) .good, within c))
     (λ c. omega (arith, within c, found c .next-line .ensures .end))
     loop-again
     (λ c κs. c .before .before .loop .inv .1)

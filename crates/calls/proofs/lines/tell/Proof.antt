@@ -26,15 +26,4 @@ returns-2 c =
     rw (good .line .given .1) (says-good (scheduleOf (a .d) (a .slots .now)) (start .pre .room) _ _ (acted .act-on .ensures) _ (told .told .ensures))
 
 pub tell-spec : {M : Type 1} → statement M
-tell-spec =
-    tie.close
-    (tie.spec
-    (λ c. search needs)
-    (λ c. search needs)
-    (λ c κs. search needs)
-    (λ c. search needs)
-    returns
-    (λ c κs. search needs)
-    (λ c κs. search needs)
-    (λ c. search needs)
-    returns-2)
+tell-spec = tie.close (tie.spec (search needs) (search needs) (search needs) (search needs) returns (λ c κs. search needs) (search needs) (search needs) returns-2)

@@ -8,7 +8,7 @@ use lib.ListN.{length, drop}
 use Rattle.rules.specs.Records.{mostPrograms, mostControls}
 use Rattle.rules.specs.Calls.{bestDefault}
 use Rattle.calls.specs.Best.{ranked}
-use Rattle.calls.proofs.Asking.{default-next, default-none, default-found, default-not}
+use Rattle.calls.proofs.Asking.{default-next, default-none}
 use Rattle.calls.proofs.programs.default_of.Statement.{statement}
 use Rattle.calls.proofs.programs.default_of.Tie as tie
 
@@ -32,16 +32,14 @@ loop-again c =
 returns : tie.Need-returns Inv-loop μ-loop
 returns c =
     let l = c .before .before .loop in
-    let a = c .before .before .before .args in
     let z : l .i ≡ 0 = omega arith in
-    record { number = refl; value = default-found (a .control) (a .t1) (l .best) (rw z at (l .inv .3)) (c .if1 .taken) }
+    record { number = refl; value = rw (← (rw z at (l .inv .3)), c .if1 .taken) }
 
 returns-2 : tie.Need-returns-2 Inv-loop μ-loop
 returns-2 c =
     let l = c .before .before .loop in
-    let a = c .before .before .before .args in
     let z : l .i ≡ 0 = omega arith in
-    record { number = refl; value = default-not (a .control) (a .t1) (l .best) (rw z at (l .inv .3)) (c .if1 .left) }
+    record { number = refl; value = rw (← (rw z at (l .inv .3)), c .if1 .left) }
 
 pub default-of-spec : {M : Type 1} → statement M
 default-of-spec =
@@ -50,12 +48,12 @@ default-of-spec =
     Inv-loop
     μ-loop
     loop-holds
-    (λ c. search needs)
-    (λ c. search needs)
-    (λ c. search needs)
-    (λ c. search needs)
-    (λ c κs. search needs)
-    (λ c. search needs)
+    (search needs)
+    (search needs)
+    (search needs)
+    (search needs)
+    (search needs)
+    (search needs)
     loop-again
     returns
     returns-2)

@@ -1,9 +1,30 @@
 -- `settle::is_better` is `better`: key by key.
 use borrow.Author.Needs.{needs}
-use Rattle.rules.specs.Holding.{better}
-use Rattle.calls.proofs.Keys.{key-yes, key-no, key-tie}
+use mathlib.Core.Path.{_≡_}
+use Prim.Native.Nat.{ℕ, _<_, _≤_}
+use native.Mathlib.Omega.{arith}
+use mathlib.Core.Bool.{Bool, true, false}
+use borrow.Author.Tests.{lt-ltb, le-ltb, eq-eqb, ne-eqb}
+use Rattle.rules.specs.Holding.{better, key}
 use Rattle.calls.proofs.settle.is_better.Statement.{statement}
 use Rattle.calls.proofs.settle.is_better.Tie as tie
+
+-- One key of a rank decides, or leaves it to the next.
+
+module _ (x y : ℕ) (n : Bool) where
+  key-yes : x < y → true ≡ key x y n
+  unfolding key
+  key-yes l = rw (lt-ltb x y l)
+
+  key-no : y < x → false ≡ key x y n
+  unfolding key
+  key-no l = rw (le-ltb x y (omega arith), ne-eqb x y (λ (e : x ≡ y). omega arith))
+
+  key-tie : (r : Bool) → y ≤ x → x ≤ y → r ≡ n → r ≡ key x y n
+  unfolding key
+  key-tie r l k e = rw (le-ltb x y l, eq-eqb x y (omega arith)) e
+
+-- The function.
 
 returns : tie.Need-returns
 unfolding better

@@ -1,45 +1,69 @@
--- One digit, or as many as the number has.
+-- Up to eight digits, or eight more, or sixteen more.
+use Prim.Native.Nat.{_/_, _^_}
 use native.Mathlib.Omega.{arith}
 use borrow.Author.Needs.{needs}
-use Rattle.text.specs.Texts.{numberDigits}
-use Rattle.text.proofs.Printing.{put-one, decimal-one}
-use Rattle.text.proofs.Digits.{has-length, same-digits, few-digits}
+use Rattle.rules.specs.Printed.{decimal}
+use Rattle.text.specs.Texts.{padded}
+use Rattle.text.proofs.Printing.{decimal-within}
+use Rattle.text.proofs.Digits.{enough, decimal-more, put-front}
 use Rattle.text.proofs.writing.decimal.Statement.{statement}
 use Rattle.text.proofs.writing.decimal.Tie as tie
 
 returns : tie.Need-returns
-returns c = rw (decimal-one numberDigits (c .before .before .args .x) (λ e. omega arith) (c .if1 .taken)) (put-one _ (omega arith))
+returns c =
+    let all = c .before .before in
+    rw (enough 7 12 (all .before .before .before .before .args .x) (omega arith)) (all .below-eight .ensures)
 
-put-digits-requires : tie.Need-put-digits-requires
-put-digits-requires c κs =
-    let l = c .before .length-of in
-    record { digits = l .ensures; room = omega (arith, few-digits (l .result) (c .before .before .before .before .args .x) (l .ensures) (omega arith)) }
-
-add-result-2 : tie.Need-add-result-2
-add-result-2 c =
-    let d = c .before .before .before .before in
-    omega (arith, few-digits (d .length-of .result) (d .before .before .before .args .x) (d .length-of .ensures) (omega arith))
+put-eight-requires : tie.Need-put-eight-requires
+put-eight-requires c κs = omega (arith, decimal-within _ _ (c .before .before .before .below-eight2 .ensures))
 
 returns-2 : tie.Need-returns-2
 returns-2 c =
-    let d = c .before .before .before .before in
-    let n = d .length-of .result in
-    let x = d .before .before .before .args .x in
-    let h = d .length-of .ensures in
-    rw (same-digits n numberDigits x h (few-digits n x h (omega arith))) (record { end = omega (arith, has-length n x h); is = c .before .before .put-digits .ensures })
+    let last = c .before .before in
+    let front = last .before .before .before .before in
+    let x = front .before .before .before .before .before .args .x in
+    put-front decimal 10 decimal-more 12 8 x (omega arith) (omega arith)
+    (rw (enough 7 4 (x / 10 ^ 8) (omega arith)) (front .below-eight2 .ensures))
+    (last .put-eight .ensures)
+
+put-eight-requires-2 : tie.Need-put-eight-requires-2
+put-eight-requires-2 c κs = omega (arith, decimal-within _ _ (c .before .before .before .below-myriad .ensures))
+
+put-eight-requires-3 : tie.Need-put-eight-requires-3
+unfolding padded
+put-eight-requires-3 c κs =
+    let second = c .before .before .before in
+    let front = second .before .before .before .before in
+    omega (arith, decimal-within _ _ (front .below-myriad .ensures))
+
+returns-3 : tie.Need-returns-3
+returns-3 c =
+    let last = c .before .before in
+    let second = last .before .before .before .before in
+    let front = second .before .before .before .before in
+    let x = front .before .before .before .before .before .args .x in
+    put-front decimal 10 decimal-more 12 8 x (omega arith) (omega arith)
+    (put-front decimal 10 decimal-more 4 8 (x / 10 ^ 8) (omega arith) (omega arith) (front .below-myriad .ensures) (second .put-eight2 .ensures))
+    (last .put-eight3 .ensures)
 
 pub decimal-spec : {M : Type 1} → statement M
 decimal-spec =
     tie.close
     (tie.spec
     (λ c. search needs)
-    (λ c. search needs)
-    (λ c. search needs)
-    (λ c. search needs)
+    (λ c κs. search needs)
     (λ c. search needs)
     returns
-    (λ c κs. search needs)
-    put-digits-requires
-    add-result-2
     (λ c. search needs)
-    returns-2)
+    (λ c. search needs)
+    (λ c κs. search needs)
+    put-eight-requires
+    (λ c. search needs)
+    returns-2
+    (λ c. search needs)
+    (λ c κs. search needs)
+    (λ c. search needs)
+    put-eight-requires-2
+    put-eight-requires-3
+    (λ c. search needs)
+    returns-3)

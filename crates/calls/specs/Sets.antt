@@ -1,0 +1,74 @@
+-- Sets of places, as bits of one number, and the events at places of the slots.
+use mathlib.Core.Path.{_≡_}
+use mathlib.Core.Logic.{_↔_}
+use Prim.Native.Nat.{ℕ, zero, suc, _<_}
+use mathlib.Core.Bool.{true, false, not, cond}
+use mathlib.Core.List.{List, [], _∷_, _++_, map}
+use lib.Dec.{eqb}
+use lib.ListN.{length, getD}
+use Rattle.rules.specs.declared.Entry.{Entry}
+use Rattle.rules.specs.declared.Program.{Program}
+use Rattle.rules.specs.Lists.{keep}
+use Rattle.rules.specs.Records.{idOf, has, mostEvents, mostPrograms}
+use Rattle.rules.specs.Holding.{Rank, rankOf, withHolding}
+use Rattle.rules.specs.Rows.{Row}
+use Rattle.calls.specs.declared.bits.Next.{Next}
+use Rattle.calls.specs.Slots.{entryOf}
+
+-- the event at a place, what it holds, and its rank
+abbrev pub eventAt : List (List ℕ) → ℕ → Entry
+eventAt w i = entryOf (getD w i [])
+
+abbrev pub maskAt : List (List ℕ) → ℕ → ℕ
+maskAt w i = eventAt w i .held
+
+abbrev pub rankIn : List Program → List (List ℕ) → ℕ → Rank
+rankIn ps w i = rankOf ps (eventAt w i .event)
+
+-- the events at the first n places have programs
+abbrev pub Numbered : ℕ → List (List ℕ) → Type 0
+Numbered n w = (i : ℕ) → i < n → eventAt w i .event .program < mostPrograms
+
+-- how many places a set can have
+abbrev pub setWidth : ℕ
+setWidth = 64
+
+-- the places before n
+unfoldable pub placesTo : ℕ → List ℕ
+placesTo zero = []
+placesTo (suc n) = placesTo n ++ (n ∷ [])
+
+-- the lowest place of a set, and the set without it
+pub record Lowest (set : ℕ) (r : Next) : Type 0 where
+  pub here : has set (r .place) ≡ true
+  pub first : (i : ℕ) → i < r .place → has set i ≡ false
+  pub gone : has (r .rest) (r .place) ≡ false
+  pub others : (i : ℕ) → (i ≡ r .place → ⊥) → has (r .rest) i ≡ has set i
+  pub less : r .rest < set
+
+-- a set is that of those of the first n places that have a property
+abbrev pub SetOf : ℕ → (ℕ → Type 0) → ℕ → Type 0
+SetOf n P set = (i : ℕ) → (has set i ≡ true) ↔ ((i < n) × P i)
+
+-- the set of those that hold something
+abbrev pub Holders : ℕ → List (List ℕ) → ℕ → Type 0
+Holders n w set = SetOf n (λ i. maskAt w i ≡ 0 → ⊥) set
+
+-- the event at place i has another mask, and nothing else has changed
+pub record Masked (i mask : ℕ) (old new : List (List ℕ)) : Type 0 where
+  pub size : length new ≡ mostEvents
+  pub here : eventAt new i ≡ withHolding (eventAt old i) (record { held = mask })
+  pub others : (j : ℕ) → (j ≡ i → ⊥) → getD new j [] ≡ getD old j []
+
+-- place i is in a set if its mask is not 0, and the others are as before
+pub record Counted (i mask before after : ℕ) : Type 0 where
+  pub each : (j : ℕ) → has after j ≡ cond (eqb j i) (not (eqb mask 0)) (has before j)
+
+-- held masks have changed, and nothing else
+pub record MasksOnly (old new : List (List ℕ)) : Type 0 where
+  pub size : length new ≡ mostEvents
+  pub each : (j : ℕ) → eventAt new j ≡ withHolding (eventAt old j) (record { held = maskAt new j })
+
+-- the rows of the events at the places of a set, by ascending place
+abbrev pub setRows : ℕ → ℕ → List (List ℕ) → ℕ → List Row
+setRows t code w set = map (λ i. record { time = t; id = idOf (eventAt w i .event); code = code }) (keep (has set) (placesTo mostEvents))
