@@ -19,7 +19,7 @@ use Rattle.rules.specs.Calls.{Outcome, recordOf, list, count, does, checks}
 use Rattle.rules.proofs.SoundState.{rules, pad-view, in-count}
 use Rattle.rules.proofs.CallLaws.{done}
 use Rattle.listing.specs.Listed.{noRecords, Lists}
-use Rattle.calls.proofs.Answers.{given, broken}
+use Rattle.calls.proofs.Acting.{given, broken}
 use Rattle.rules.proofs.Copying.{copied-more, copied-all}
 
 module _ (s : Schedule) where
