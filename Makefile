@@ -1,12 +1,13 @@
 # make run    builds the program `schedule` and runs it on the recorded day
 # make host   builds the archive for C hosts and the example host, and runs it
+# make install PREFIX=/usr/local [TARGET=cortex-m4] [DESTDIR=/stage]   header, archive, pkg-config file and CMake package; a TARGET is one of `make targets`
 # make bench     the program, and each C call, beside the independent scheduler, as ratios
 # make picture   draws the recorded day and the bench marks T10 and T11
 # make picture LIST=my.frames OUT=my.svg [ARGUMENTS="--from 5000 --to 6000"]   draws another list
 # make fuzz   lines and images by a coverage-guided fuzzer beside the independent scheduler, ten minutes each; not part of the gate
 # make mutants   makes the definitions wrong, one token at a time, and tells what notices; about twenty minutes; not part of the gate
 # make test   proves everything, tries every must-fail edit, runs the tests: the gate
-.PHONY: run host bench fuzz mutants picture test clean
+.PHONY: run host install bench fuzz mutants picture test clean
 
 run: build/schedule.log
 	@target/bin/schedule < examples/day.frames
@@ -27,6 +28,16 @@ build/archive.log:
 	@mkdir -p build
 	@echo "proving and building libhadulmir.a; on a new machine this takes some minutes" >&2
 	@rt staticlib hadulmir > $@ 2>&1 || { tail -n 20 $@ >&2; exit 1; }
+
+PREFIX ?= /usr/local
+
+ifdef TARGET
+install: targets
+	@packaging/install build/targets/$(TARGET)/libhadulmir.a $(abspath $(PREFIX)) $(DESTDIR)
+else
+install: build/archive.log
+	@packaging/install target/staticlib/libhadulmir.a $(abspath $(PREFIX)) $(DESTDIR)
+endif
 
 bench: build/schedule.log build/archive.log
 	@HADULMIR_ARCHIVE_DIR=$(CURDIR)/target/staticlib cargo build --quiet --release --offline --manifest-path tests/oracle/Cargo.toml --target-dir build/oracle --features face

@@ -1,122 +1,186 @@
 /*
  * A small host: two events that overlap, a clock that moves in steps, a loss of power, refusals. Program and events are those of document
- * 01's worked example, so the lines "time id code" are those of its output, in its order; only the line of the late event 3 is added.
+ * 01's worked example, with its ids as mRIDs, so the lines "time mRID code" are those of its output, in its order; only the line of the late
+ * event 3 is added.
  */
 #include <inttypes.h>
 #include <stdio.h>
+#include <stdlib.h>
 #include <string.h>
 
 #include "hadulmir.h"
 
+#define KNOWN_AT_MOST 64
+
+/* What the part does not keep of an event: its mRID, and the draws that were made for it. The event's id is its place in the table. */
+struct known {
+    char mrid[33];
+    int32_t start_draw, duration_draw;
+};
+
+/* All that has to outlive a loss of power. */
+struct state {
+    uint8_t image[HADULMIR_IMAGE_SIZE];
+    struct known known[KNOWN_AT_MOST];
+    size_t count;
+};
+
+/*
+ * Each call is made on a copy, `next`; its responses are posted; then the copy is stored and taken over. A cut before the store repeats what
+ * was posted, a cut after it loses nothing. A store that can be torn needs a check sum, or two places and a mark.
+ */
+static struct state now, next, stored;
+
+static void store(void)
+{
+    stored = next;
+    now = next;
+}
+
 /* What a host would send to the response server. */
 static void post(uint64_t time, uint64_t id, uint8_t code)
 {
-    printf("%" PRIu64 " %" PRIu64 " %u\n", time, id, (unsigned)code);
+    printf("%" PRIu64 " %s %u\n", time, next.known[id].mrid, (unsigned)code);
 }
 
-/* After a delivery or a cancellation: post its response code, if it has one, and say why it was refused, if it was. */
-static void answer(const uint8_t *image, uint64_t id, int32_t returned)
+static void refused(const char *what, int32_t returned)
 {
-    uint8_t code = hadulmir_response_for(returned);
+    printf("%s refused with number %" PRId32 ": %s\n", what, -returned, hadulmir_refusal_text(returned));
+}
 
+/* At random between 0 and the bound, both included. Beyond an hour the delivery is refused, whatever the draw. */
+static int32_t draw(int32_t bound)
+{
+    if (bound < -3600 || bound > 3600)
+        return 0;
+    return bound < 0 ? -(rand() % (1 - bound)) : rand() % (1 + bound);
+}
+
+/* Gives the event its id and its draws: those that it has, or new ones. Whether there is room for it. */
+static int know(struct hadulmir_event *event, const char *mrid)
+{
+    size_t i = 0;
+
+    while (i < next.count && strcmp(next.known[i].mrid, mrid) != 0)
+        i++;
+    if (i == KNOWN_AT_MOST)
+        return 0;
+    if (i == next.count) {
+        snprintf(next.known[i].mrid, sizeof next.known[i].mrid, "%s", mrid);
+        next.known[i].start_draw = draw(event->randomize_start);
+        next.known[i].duration_draw = draw(event->randomize_duration);
+        next.count++;
+    }
+    event->id = i;
+    event->start_draw = next.known[i].start_draw;
+    event->duration_draw = next.known[i].duration_draw;
+    return 1;
+}
+
+/* An event as it was received, of program 0 for control 0. Accepted, its answer is the code to post, or 0 for none. */
+static void deliver(const char *mrid, uint32_t created, uint32_t start, uint32_t duration)
+{
+    struct hadulmir_event event = {.program = 0, .controls = 0x1, .created = created, .start = start, .duration = duration};
+    int32_t returned;
+    uint8_t code;
+
+    next = now;
+    if (!know(&event, mrid))
+        return;
+    returned = hadulmir_deliver_event(next.image, sizeof next.image, &event);
     if (hadulmir_is_refusal(returned))
-        printf("event %" PRIu64 " refused with number %" PRId32 "\n", id, -returned);
+        refused("event", returned);
+    code = hadulmir_is_refusal(returned) ? hadulmir_response_for(returned) : (uint8_t)returned;
     if (code != 0)
-        post(hadulmir_clock_of(image), id, code);
-}
-
-/* An event that is not randomised, under program 0 on control 0. */
-static void deliver(uint8_t *image, uint64_t id, uint32_t created, uint32_t start, uint32_t duration)
-{
-    uint16_t zero = hadulmir_signed(0);
-
-    answer(image, id, hadulmir_deliver(image, HADULMIR_IMAGE_SIZE, id, 0, 0x1, created, start, duration, zero, zero, zero, zero));
+        post(hadulmir_clock_of(next.image), event.id, code);
+    if (!hadulmir_is_refusal(returned))
+        store();
 }
 
 /* Set the clock and post every row that this gives. Rows go into a buffer that fits them all, so that only the reading can be refused. */
-static void set_clock(uint8_t *image, uint64_t reading)
+static void set_clock(uint64_t reading)
 {
     static uint8_t rows[HADULMIR_ROWS_SIZE];
-    int32_t count = hadulmir_set_clock(image, HADULMIR_IMAGE_SIZE, reading, rows, sizeof rows);
-    int32_t i;
+    int32_t count, i;
 
-    if (hadulmir_is_refusal(count))
-        printf("clock %" PRIu64 " refused with number %" PRId32 "\n", reading, -count);
+    next = now;
+    count = hadulmir_set_clock(next.image, sizeof next.image, reading, rows, sizeof rows);
+    if (hadulmir_is_refusal(count)) {
+        refused("clock", count);
+        return;
+    }
     for (i = 0; i < count; i++) {
         struct hadulmir_row row = hadulmir_row_at(rows, (size_t)i);
         post(row.time, row.id, row.code);
     }
+    store();
 }
 
 /* What the control should do now. The value itself is found by the host, from the event or from the program. */
-static void ask(uint8_t *image, uint8_t control)
+static void ask(uint8_t control)
 {
     uint8_t id[HADULMIR_ID_SIZE];
-    int32_t asked = hadulmir_ask(image, HADULMIR_IMAGE_SIZE, control, id, sizeof id);
+    int32_t asked = hadulmir_ask(now.image, sizeof now.image, control, id, sizeof id);
 
     if (hadulmir_is_refusal(asked))
-        printf("control %u refused with number %" PRId32 "\n", (unsigned)control, -asked);
+        refused("question", asked);
     else if (asked == HADULMIR_EVENT)
-        printf("%u event %" PRIu64 "\n", (unsigned)control, hadulmir_id_at(id));
+        printf("%u event %s\n", (unsigned)control, now.known[hadulmir_id_at(id)].mrid);
     else if (asked == HADULMIR_NOBODY)
         printf("%u none\n", (unsigned)control);
     else
         printf("%u default %" PRId32 "\n", (unsigned)control, asked - HADULMIR_DEFAULT);
 }
 
-static void list(uint8_t *image)
+static void list(void)
 {
     static uint8_t records[HADULMIR_RECORDS_SIZE];
-    int32_t count = hadulmir_list(image, HADULMIR_IMAGE_SIZE, records, sizeof records);
+    int32_t count = hadulmir_list(now.image, sizeof now.image, records, sizeof records);
     int32_t i;
 
     if (hadulmir_is_refusal(count)) {
-        printf("list refused with number %" PRId32 "\n", -count);
+        refused("listing", count);
         return;
     }
-    printf("%" PRId32 " held at %" PRIu64 "\n", count, hadulmir_clock_of(image));
+    printf("%" PRId32 " held at %" PRIu64 "\n", count, hadulmir_clock_of(now.image));
     for (i = 0; i < count; i++) {
         struct hadulmir_record record = hadulmir_record_at(records, (size_t)i);
-        printf("  event %" PRIu64 " from %" PRIu64 " to %" PRIu64 " holds %08" PRIX32 "%s\n", record.id, record.effective_start,
-               hadulmir_effective_end(&record), record.held, record.cancelled ? ", cancelled" : "");
+        printf("  event %s from %" PRIu64 " to %" PRIu64 " holds %08" PRIX32 "%s\n", now.known[record.event.id].mrid,
+               record.effective_start, hadulmir_effective_end(&record.event), record.held, record.cancelled ? ", cancelled" : "");
     }
 }
 
 int main(void)
 {
-    static uint8_t before[HADULMIR_IMAGE_SIZE], image[HADULMIR_IMAGE_SIZE];
-
-    if (hadulmir_is_refusal(hadulmir_fresh(before, sizeof before))
-        || hadulmir_is_refusal(hadulmir_add_program(before, sizeof before, 0, 1, 0x1)))
+    if (hadulmir_is_refusal(hadulmir_fresh(next.image, sizeof next.image))
+        || hadulmir_is_refusal(hadulmir_add_program(next.image, sizeof next.image, 0, 1, 0x1)))
         return 1;
-    set_clock(before, 4000);
-    deliver(before, 1, 100, 5000, 600);
-    deliver(before, 2, 200, 5300, 60);
-    ask(before, 0);
-    set_clock(before, 4999);
-    set_clock(before, 5000);
-    ask(before, 0);
+    store();
+    set_clock(4000);
+    deliver("1", 100, 5000, 600);
+    deliver("2", 200, 5300, 60);
+    ask(0);
+    set_clock(4999);
+    set_clock(5000);
+    ask(0);
 
-    /* The power goes. All that has to be kept is the image; the host goes on from a copy, wherever that stands. */
-    memcpy(image, before, sizeof image);
-    memset(before, 0xFF, sizeof before);
-    printf("power back, clock %" PRIu64 "\n", hadulmir_clock_of(image));
-    list(image);
+    /* The power goes: what is left in memory is junk, and is refused as such. The host goes on from what it stored. */
+    memset(&now, 0xFF, sizeof now);
+    list();
+    now = stored;
+    printf("power back, clock %" PRIu64 "\n", hadulmir_clock_of(now.image));
+    list();
 
     /* The server sends everything again, and an event that is long over: nothing for what is held, code 254 for the late one. */
-    deliver(image, 1, 100, 5000, 600);
-    deliver(image, 3, 50, 3600, 600);
+    deliver("1", 100, 5000, 600);
+    deliver("3", 50, 3600, 600);
 
-    set_clock(image, 5300);
-    ask(image, 0);
-    list(image);
-    set_clock(image, 4000);
-    set_clock(image, 6000);
-    ask(image, 0);
-    list(image);
-
-    /* What is left of the first image is junk, and is refused as such. */
-    if (hadulmir_cancel(before, sizeof before, 1) == HADULMIR_BAD_IMAGE)
-        printf("no image, nothing done\n");
+    set_clock(5300);
+    ask(0);
+    list();
+    set_clock(4000);
+    set_clock(6000);
+    ask(0);
+    list();
     return 0;
 }

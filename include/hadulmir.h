@@ -1,4 +1,5 @@
-/*
+/**
+ * @file hadulmir.h
  * Hadulmir: the event schedule of an IEEE 2030.5 client.
  *
  * A host hands over programs, events, cancellations and clock readings as it received them. The part says which event holds which
@@ -11,11 +12,13 @@
  *
  * HOW IT IS USED
  *
+ *     static const struct hadulmir_event event = {.id = 1, .program = 0, .controls = 0x1, .created = 100, .start = 5000, .duration = 600};
  *     uint8_t image[HADULMIR_IMAGE_SIZE], rows[HADULMIR_ROWS_SIZE];
  *     int32_t n, i;
  *
  *     hadulmir_fresh(image, sizeof image);
  *     hadulmir_add_program(image, sizeof image, 0, 1, 0x1);
+ *     hadulmir_deliver_event(image, sizeof image, &event);
  *     ...
  *     n = hadulmir_set_clock(image, sizeof image, now, rows, sizeof rows);
  *     for (i = 0; i < n; i++)
@@ -32,7 +35,11 @@
  *   4. An image is whole between calls. A copy that is to outlive a loss of power is made between calls, never during one.
  *   5. Rows are given once: the next clock call starts behind them. A host that must not lose any stores them with the image.
  *
- * HADULMIR_STACK_SIZE bytes of stack do for every call; tests/c.sh measures it. Of the C library the archive needs memcpy and memset alone.
+ * HADULMIR_STACK_SIZE bytes of stack do for every call. Of the C library the archive needs memcpy, memmove and memset at most, by the names
+ * that the target's convention has for them.
+ *
+ * A length is 64 bits wide on every target, whatever size_t is there. No struct of this header is handed to the archive, so the host's rules
+ * for packing and for the size of an enum do not count.
  *
  * ANSWERS AND REFUSALS
  *
@@ -46,6 +53,7 @@
 #ifndef HADULMIR_H
 #define HADULMIR_H
 
+#include <limits.h>
 #include <stddef.h>
 #include <stdint.h>
 
@@ -53,80 +61,99 @@
 extern "C" {
 #endif
 
-/* Bytes of an image. */
+/** No archive fits a target that is refused here: bytes are 8 bits wide, an int 32, a pointer 32 or 64. */
+typedef char hadulmir_fits_the_target[CHAR_BIT == 8 && sizeof(int) == 4 && (sizeof(void *) == 4 || sizeof(void *) == 8) ? 1 : -1];
+
+/** This version: as a number, 10,000 for the first part of its name, 100 for the second, 1 for the third; and as text. */
+#define HADULMIR_VERSION 10000
+#define HADULMIR_VERSION_TEXT "1.0.0"
+
+/** The layout of the image. Versions with the same number here take up each other's images: a host stores it with the image. */
+#define HADULMIR_IMAGE_LAYOUT 1
+
+/** Bytes of an image. */
 #define HADULMIR_IMAGE_SIZE 2265
 
-/* Bytes of a response row. */
+/** Where things stand in an image (see THE IMAGE below): the clock, the count of held events, the programs, the events. */
+#define HADULMIR_CLOCK_AT 0
+#define HADULMIR_COUNT_AT 8
+#define HADULMIR_PROGRAMS_AT 9
+#define HADULMIR_EVENTS_AT 57
+
+/** Bytes of a program in an image. */
+#define HADULMIR_PROGRAM_SIZE 6
+
+/** Bytes of a response row. */
 #define HADULMIR_ROW_SIZE 17
 
-/* Rows that one clock call gives at most: two for each held event. */
+/** Rows that one clock call gives at most: two for each held event. */
 #define HADULMIR_ROWS_AT_MOST 96
 
-/* Bytes of a row buffer that is long enough for every clock call. */
+/** Bytes of a row buffer that is long enough for every clock call. */
 #define HADULMIR_ROWS_SIZE (HADULMIR_ROWS_AT_MOST * HADULMIR_ROW_SIZE)
 
-/* Bytes of a listed record, and of an event entry of the image. */
+/** Bytes of a listed record, and of an event in an image. */
 #define HADULMIR_RECORD_SIZE 46
 
-/* Events that a schedule holds at most. */
+/** Events that a schedule holds at most. */
 #define HADULMIR_EVENTS_AT_MOST 48
 
-/* Bytes of a record buffer that is long enough for every listing. */
+/** Bytes of a record buffer that is long enough for every listing. */
 #define HADULMIR_RECORDS_SIZE (HADULMIR_EVENTS_AT_MOST * HADULMIR_RECORD_SIZE)
 
-/* Bytes of an id in a buffer. */
+/** Bytes of an id in a buffer. */
 #define HADULMIR_ID_SIZE 8
 
-/* Programs have the numbers 0 to 7, controls the numbers 0 to 31. */
-#define HADULMIR_PROGRAMS 8
-#define HADULMIR_CONTROLS 32
+/** Programs have the numbers 0 to 7, controls the numbers 0 to 31. */
+#define HADULMIR_PROGRAMS_AT_MOST 8
+#define HADULMIR_CONTROLS_AT_MOST 32
 
-/* The last reading that a clock call accepts. */
-#define HADULMIR_LAST_CLOCK UINT64_C(9000000000)
+/** The last reading that a clock call accepts. */
+#define HADULMIR_CLOCK_AT_MOST UINT64_C(9000000000)
 
-/* Bytes of stack that do for every call on x86-64. Measured and rounded up, not proved; docs/HOST.md has what each call takes. */
+/** Bytes of stack that do for every call. Measured and rounded up, not proved; docs/HOST.md has what each call takes, and where. */
 #define HADULMIR_STACK_SIZE 32768
 
-/*
+/**
  * The refusals, as they are returned, in the order in which a call checks them. A call that several apply to returns the first. Number 1 is
  * that of a line of text which is no frame; no function of this header reads lines, so none returns it.
  */
 enum hadulmir_refusal {
-    /* The image is not 2,265 bytes long, or breaks a rule of images (see THE IMAGE below). */
+    /** The image is not 2,265 bytes long, or breaks a rule of images (see THE IMAGE below). */
     HADULMIR_BAD_IMAGE = -2,
-    /* The program number is above 7. */
+    /** The program number is above 7. */
     HADULMIR_PROGRAM_TOO_LARGE = -3,
-    /* The program was added before. */
+    /** The program was added before. */
     HADULMIR_PROGRAM_ADDED = -4,
-    /* The primacy is reserved: 3 to 64, or 192 to 255. */
+    /** The primacy is reserved: 3 to 64, or 192 to 255. */
     HADULMIR_PRIMACY_RESERVED = -5,
-    /* The event's program was not added. */
+    /** The event's program was not added. */
     HADULMIR_PROGRAM_UNKNOWN = -6,
-    /*
+    /**
      * The event is invalid: its controls are 0, its start is below 3,600, its duration is 0, a randomisation is outside -3,600 to 3,600, a
      * draw does not lie between 0 and its randomisation, or duration + duration draw is below 1. The host posts response code 253.
      */
     HADULMIR_EVENT_INVALID = -7,
-    /* The id is held, with some field different. */
+    /** The id is held, with some field different. */
     HADULMIR_EVENT_DIFFERS = -8,
-    /*
+    /**
      * The id is not held and the event comes too late: start + duration is at or before the clock, or its effective end is at or before the
      * second after the clock. The host posts response code 254.
      */
     HADULMIR_EVENT_EXPIRED = -9,
-    /* The id is not held and 48 events are. */
+    /** The id is not held and 48 events are. */
     HADULMIR_FULL = -10,
-    /* The id to be cancelled is not held. */
+    /** The id to be cancelled is not held. */
     HADULMIR_NOT_HELD = -11,
-    /* The reading is before the clock, or above 9,000,000,000. */
+    /** The reading is before the clock, or above 9,000,000,000. */
     HADULMIR_BAD_CLOCK = -12,
-    /* The lent buffer is shorter than what the call has to write. */
+    /** The lent buffer is shorter than what the call has to write. */
     HADULMIR_TOO_SHORT = -13,
-    /* The control is above 31. */
+    /** The control is above 31. */
     HADULMIR_CONTROL_TOO_LARGE = -14
 };
 
-/* Response codes of IEEE 2030.5 that a host posts. 2, 3 and 7 come in rows, 1 and 6 are answers, 253 and 254 go with refusals. */
+/** Response codes of IEEE 2030.5 that a host posts. 2, 3 and 7 come in rows, 1 and 6 are answers, 253 and 254 go with refusals. */
 enum hadulmir_response {
     HADULMIR_RECEIVED = 1,
     HADULMIR_STARTED = 2,
@@ -137,7 +164,7 @@ enum hadulmir_response {
     HADULMIR_REJECTED_EXPIRED = 254
 };
 
-/* What hadulmir_ask answers. Program p is answered as HADULMIR_DEFAULT + p. */
+/** What hadulmir_ask answers. Program p is answered as HADULMIR_DEFAULT + p. */
 enum hadulmir_asked {
     HADULMIR_NOBODY = 0,
     HADULMIR_EVENT = 1,
@@ -187,42 +214,42 @@ enum hadulmir_asked {
  *   - No two held masks share a bit.
  */
 
-/*
+/**
  * Makes the fresh image: clock 0, no program, no event, which is 2,265 zero bytes. What the buffer held before does not count.
  * Answers 0 and writes all 2,265 bytes.
  * Refuses with -2 if image_len is not 2,265.
  */
-int32_t hadulmir_fresh(uint8_t *image, size_t image_len);
+int32_t hadulmir_fresh(uint8_t *image, uint64_t image_len);
 
-/*
+/**
  * Adds a program. `primacy`: less is better; 0, 1, 2 and 65 to 191 may be used. `defaults` is the mask of controls that it has a default
  * for, and may be 0. A program cannot be changed or taken away; to do so a host starts again from a fresh image.
  * Answers 0 and writes the image.
  * Refuses with -2, -3, -4, -5.
  */
-int32_t hadulmir_add_program(uint8_t *image, size_t image_len, uint8_t number, uint8_t primacy, uint32_t defaults);
+int32_t hadulmir_add_program(uint8_t *image, uint64_t image_len, uint8_t number, uint8_t primacy, uint32_t defaults);
 
-/*
- * Delivers an event. `id` is the host's own handle for it. The last four numbers are signed, in two's complement: give them through
- * hadulmir_signed. The host draws once for an event, at random, between 0 and the randomisation, both included, and gives the same draws
- * whenever it delivers that event again.
+/**
+ * Delivers an event. hadulmir_deliver_event below does the same without ten numbers in a row. `id` is the host's own handle for the event.
+ * The last four numbers are signed, in two's complement: give them through hadulmir_signed. The host draws once for an event, at random,
+ * between 0 and the randomisation, both included, and gives the same draws whenever it delivers that event again.
  * Answers 1 if the event is new and writes the image; the host posts code 1. Answers 0 if it is held with every field equal, cancelled or not,
  * and leaves the image as it was. An event is held until the clock reaches its effective end. After that its id is free.
  * Refuses with -2, -3, -6, -7, -8, -9, -10. The host posts 253 for -7 and 254 for -9; hadulmir_response_for says so.
  */
-int32_t hadulmir_deliver(uint8_t *image, size_t image_len, uint64_t id, uint8_t program, uint32_t controls, uint32_t created,
+int32_t hadulmir_deliver(uint8_t *image, uint64_t image_len, uint64_t id, uint8_t program, uint32_t controls, uint32_t created,
                          uint32_t start, uint32_t duration, uint16_t randomize_start, uint16_t randomize_duration,
                          uint16_t start_draw, uint16_t duration_draw);
 
-/*
+/**
  * Cancels a held event. It holds nothing any more, as a question or a listing after the call shows; what it held at the present second still
  * counts for that second. It gives no more rows, and stays listed until its effective end.
  * Answers 6 and writes the image; the host posts code 6. Answers 0 if it was cancelled before, and leaves the image as it was.
  * Refuses with -2, -11.
  */
-int32_t hadulmir_cancel(uint8_t *image, size_t image_len, uint64_t id);
+int32_t hadulmir_cancel(uint8_t *image, uint64_t image_len, uint64_t id);
 
-/*
+/**
  * Sets the clock to `reading` and writes the response rows of all moments after the old reading up to the new one, one behind the other from
  * the front of `rows`. Rows go by time, at one time by code in the order 3, 7, 2, then by id. A jump over many moments gives the same rows as
  * a call for every second. The same reading again is allowed and gives none.
@@ -230,43 +257,74 @@ int32_t hadulmir_cancel(uint8_t *image, size_t image_len, uint64_t id);
  * Refuses with -2, -12, and with -13 if rows_len is below 17 times the count. HADULMIR_ROWS_SIZE bytes always suffice. After -13 the clock
  * stands where it stood: a host calls again with a longer buffer, or with an earlier reading first.
  */
-int32_t hadulmir_set_clock(uint8_t *image, size_t image_len, uint64_t reading, uint8_t *rows, size_t rows_len);
+int32_t hadulmir_set_clock(uint8_t *image, uint64_t image_len, uint64_t reading, uint8_t *rows, uint64_t rows_len);
 
-/*
+/**
  * Asks what holds for a control now. The image stays as it was.
  * Answers HADULMIR_EVENT (1) if an event holds it, with its id in the first 8 bytes of `id` (hadulmir_id_at reads it); the bytes behind stay
  * as they were. Else answers HADULMIR_DEFAULT + p (2 to 9) for the program p of best primacy whose defaults have the control, the smaller
  * number if two are equal; else HADULMIR_NOBODY (0). With these two answers `id` stays as it was, and may be of any length.
  * Refuses with -2, -14, and with -13 if an event holds the control and id_len is below 8.
  */
-int32_t hadulmir_ask(uint8_t *image, size_t image_len, uint8_t control, uint8_t *id, size_t id_len);
+int32_t hadulmir_ask(const uint8_t *image, uint64_t image_len, uint8_t control, uint8_t *id, uint64_t id_len);
 
-/*
+/**
  * Lists the held events by ascending id, one record of 46 bytes behind the other from the front of `records`. The image stays as it was.
  * Answers their count, 0 to 48, and writes 46 bytes for each; the bytes behind stay as they were. records_len need be no multiple of 46.
  * Refuses with -2, and with -13 if records_len is below 46 times the count. HADULMIR_RECORDS_SIZE bytes always suffice.
  */
-int32_t hadulmir_list(uint8_t *image, size_t image_len, uint8_t *records, size_t records_len);
+int32_t hadulmir_list(const uint8_t *image, uint64_t image_len, uint8_t *records, uint64_t records_len);
 
-/* HELPERS. They are compiled into the host and call nothing. */
+/* HELPERS. They are compiled into the host; the archive is called by hadulmir_deliver_event alone. */
 
-/* Whether a returned number is a refusal. */
+/** Whether a returned number is a refusal. */
 static inline int hadulmir_is_refusal(int32_t returned)
 {
     return returned < 0;
 }
 
-/*
- * The response code that a host posts after hadulmir_deliver or hadulmir_cancel returned `returned`; 0 if there is nothing to post.
- * The returned numbers of the other functions are counts or answers of another kind and are not to be given to it.
- */
-static inline uint8_t hadulmir_response_for(int32_t returned)
+/** A refusal as text, for a log. */
+static inline const char *hadulmir_refusal_text(int32_t refusal)
 {
-    switch (returned) {
-    case HADULMIR_RECEIVED:
-        return HADULMIR_RECEIVED;
-    case HADULMIR_CANCELLED:
-        return HADULMIR_CANCELLED;
+    switch (refusal) {
+    case HADULMIR_BAD_IMAGE:
+        return "no image, or one that breaks a rule";
+    case HADULMIR_PROGRAM_TOO_LARGE:
+        return "program number above 7";
+    case HADULMIR_PROGRAM_ADDED:
+        return "program added before";
+    case HADULMIR_PRIMACY_RESERVED:
+        return "primacy reserved";
+    case HADULMIR_PROGRAM_UNKNOWN:
+        return "event of a program that was not added";
+    case HADULMIR_EVENT_INVALID:
+        return "event invalid";
+    case HADULMIR_EVENT_DIFFERS:
+        return "id held, with some field different";
+    case HADULMIR_EVENT_EXPIRED:
+        return "event expired";
+    case HADULMIR_FULL:
+        return "48 events are held";
+    case HADULMIR_NOT_HELD:
+        return "id not held";
+    case HADULMIR_BAD_CLOCK:
+        return "reading before the clock, or above 9000000000";
+    case HADULMIR_TOO_SHORT:
+        return "lent buffer too short";
+    case HADULMIR_CONTROL_TOO_LARGE:
+        return "control above 31";
+    default:
+        return "no refusal of this part";
+    }
+}
+
+/**
+ * The response code that a host posts after a refusal: 253 for -7, 254 for -9, else 0 for none. It takes refusals alone: what hadulmir_deliver
+ * and hadulmir_cancel answer is the code itself, or 0 for none, and what the other functions answer is no code.
+ */
+static inline uint8_t hadulmir_response_for(int32_t refusal)
+{
+    switch (refusal) {
     case HADULMIR_EVENT_INVALID:
         return HADULMIR_REJECTED_INVALID;
     case HADULMIR_EVENT_EXPIRED:
@@ -276,7 +334,7 @@ static inline uint8_t hadulmir_response_for(int32_t returned)
     }
 }
 
-/*
+/**
  * A signed number as the 16 bits that hadulmir_deliver takes. One that does not fit into 16 bits becomes -32,768, which is outside every
  * range, so that the delivery is refused with -7; cut off to 16 bits it could have become a number that passes.
  */
@@ -287,7 +345,29 @@ static inline uint16_t hadulmir_signed(int32_t value)
     return (uint16_t)((uint32_t)value & 0xFFFFu);
 }
 
-/* The number of `size` bytes, at most 8, most significant first. */
+/** An event as it is delivered. Fields that are left out of an initialiser are 0: no randomisation. */
+struct hadulmir_event {
+    uint64_t id;
+    uint8_t program;
+    uint32_t controls;
+    uint32_t created;
+    uint32_t start;
+    uint32_t duration;
+    int32_t randomize_start;
+    int32_t randomize_duration;
+    int32_t start_draw;
+    int32_t duration_draw;
+};
+
+/** hadulmir_deliver with the fields by name and the signed ones as signed numbers. */
+static inline int32_t hadulmir_deliver_event(uint8_t *image, uint64_t image_len, const struct hadulmir_event *event)
+{
+    return hadulmir_deliver(image, image_len, event->id, event->program, event->controls, event->created, event->start, event->duration,
+                            hadulmir_signed(event->randomize_start), hadulmir_signed(event->randomize_duration),
+                            hadulmir_signed(event->start_draw), hadulmir_signed(event->duration_draw));
+}
+
+/** The number of `size` bytes, at most 8, most significant first. */
 static inline uint64_t hadulmir_number_at(const uint8_t *bytes, size_t size)
 {
     uint64_t number = 0;
@@ -298,7 +378,7 @@ static inline uint64_t hadulmir_number_at(const uint8_t *bytes, size_t size)
     return number;
 }
 
-/* The signed number of 2 bytes. */
+/** The signed number of 2 bytes. */
 static inline int16_t hadulmir_signed_at(const uint8_t *bytes)
 {
     int32_t number = (int32_t)hadulmir_number_at(bytes, 2);
@@ -306,26 +386,20 @@ static inline int16_t hadulmir_signed_at(const uint8_t *bytes)
     return (int16_t)(number < 32768 ? number : number - 65536);
 }
 
-/* The id that hadulmir_ask wrote. Only where it answered HADULMIR_EVENT. */
+/** The id that hadulmir_ask wrote. Only where it answered HADULMIR_EVENT. */
 static inline uint64_t hadulmir_id_at(const uint8_t *id)
 {
     return hadulmir_number_at(id, HADULMIR_ID_SIZE);
 }
 
-/* The clock of an image. A host that took up an image goes on from there. */
-static inline uint64_t hadulmir_clock_of(const uint8_t *image)
-{
-    return hadulmir_number_at(image, 8);
-}
-
-/* A response row: at `time` the event `id` gives the response code `code`, which is 2, 3 or 7. */
+/** A response row: at `time` the event `id` gives the response code `code`, which is 2, 3 or 7. */
 struct hadulmir_row {
     uint64_t time;
     uint64_t id;
     uint8_t code;
 };
 
-/* Row i of a buffer that hadulmir_set_clock wrote; i is below the count that it answered. */
+/** Row i of a buffer that hadulmir_set_clock wrote; i is below the count that it answered. */
 static inline struct hadulmir_row hadulmir_row_at(const uint8_t *rows, size_t i)
 {
     const uint8_t *at = rows + i * HADULMIR_ROW_SIZE;
@@ -337,51 +411,79 @@ static inline struct hadulmir_row hadulmir_row_at(const uint8_t *rows, size_t i)
     return row;
 }
 
-/* A held event: its fields as they were delivered, the signed ones as signed numbers; its effective start; what it holds now. */
+/** A held event: as it was delivered, its effective start, the mask of what it holds now, and whether it is cancelled (0 or 1). */
 struct hadulmir_record {
-    uint64_t id;
-    uint8_t program;
-    uint32_t controls;
-    uint32_t created;
-    uint32_t start;
-    uint32_t duration;
-    int16_t randomize_start;
-    int16_t randomize_duration;
-    int16_t start_draw;
-    int16_t duration_draw;
+    struct hadulmir_event event;
     uint64_t effective_start;
     uint32_t held;
     uint8_t cancelled;
 };
 
-/* Record i of a buffer that hadulmir_list wrote; i is below the count that it answered. */
+/** Record i of a buffer that hadulmir_list wrote; i is below the count that it answered. */
 static inline struct hadulmir_record hadulmir_record_at(const uint8_t *records, size_t i)
 {
     const uint8_t *at = records + i * HADULMIR_RECORD_SIZE;
     struct hadulmir_record record;
 
-    record.id = hadulmir_number_at(at, 8);
-    record.program = at[8];
-    record.controls = (uint32_t)hadulmir_number_at(at + 9, 4);
-    record.created = (uint32_t)hadulmir_number_at(at + 13, 4);
-    record.start = (uint32_t)hadulmir_number_at(at + 17, 4);
-    record.duration = (uint32_t)hadulmir_number_at(at + 21, 4);
-    record.randomize_start = hadulmir_signed_at(at + 25);
-    record.randomize_duration = hadulmir_signed_at(at + 27);
-    record.start_draw = hadulmir_signed_at(at + 29);
-    record.duration_draw = hadulmir_signed_at(at + 31);
+    record.event.id = hadulmir_number_at(at, 8);
+    record.event.program = at[8];
+    record.event.controls = (uint32_t)hadulmir_number_at(at + 9, 4);
+    record.event.created = (uint32_t)hadulmir_number_at(at + 13, 4);
+    record.event.start = (uint32_t)hadulmir_number_at(at + 17, 4);
+    record.event.duration = (uint32_t)hadulmir_number_at(at + 21, 4);
+    record.event.randomize_start = hadulmir_signed_at(at + 25);
+    record.event.randomize_duration = hadulmir_signed_at(at + 27);
+    record.event.start_draw = hadulmir_signed_at(at + 29);
+    record.event.duration_draw = hadulmir_signed_at(at + 31);
     record.effective_start = hadulmir_number_at(at + 33, 8);
     record.held = (uint32_t)hadulmir_number_at(at + 41, 4);
     record.cancelled = at[45];
     return record;
 }
 
-/* The second at which an event ends, and from which on it is no longer held. */
-static inline uint64_t hadulmir_effective_end(const struct hadulmir_record *record)
+/** The second at which an event ends, and from which on it is no longer held. */
+static inline uint64_t hadulmir_effective_end(const struct hadulmir_event *event)
 {
-    int64_t drawn_start = (int64_t)record->start + record->start_draw;
+    return (uint64_t)((int64_t)event->start + event->start_draw + (int64_t)event->duration + event->duration_draw);
+}
 
-    return (uint64_t)(drawn_start + (int64_t)record->duration + record->duration_draw);
+/* The readers below are for an image that a call accepted or wrote. They look at its bytes and check nothing. */
+
+/** The clock. A host that took up an image goes on from there. */
+static inline uint64_t hadulmir_clock_of(const uint8_t *image)
+{
+    return hadulmir_number_at(image + HADULMIR_CLOCK_AT, 8);
+}
+
+/** How many events are held. */
+static inline uint8_t hadulmir_count_of(const uint8_t *image)
+{
+    return image[HADULMIR_COUNT_AT];
+}
+
+/** A program: whether it was added (0 or 1), its primacy and the mask of its defaults; both 0 if it was not. */
+struct hadulmir_program {
+    uint8_t added;
+    uint8_t primacy;
+    uint32_t defaults;
+};
+
+/** Program `number`, which is at most 7. */
+static inline struct hadulmir_program hadulmir_program_of(const uint8_t *image, uint8_t number)
+{
+    const uint8_t *at = image + HADULMIR_PROGRAMS_AT + number * HADULMIR_PROGRAM_SIZE;
+    struct hadulmir_program program;
+
+    program.added = at[0];
+    program.primacy = at[1];
+    program.defaults = (uint32_t)hadulmir_number_at(at + 2, 4);
+    return program;
+}
+
+/** Held event i, which is below the count; they stand by ascending id, as in a listing. */
+static inline struct hadulmir_record hadulmir_record_of(const uint8_t *image, size_t i)
+{
+    return hadulmir_record_at(image + HADULMIR_EVENTS_AT, i);
 }
 
 #ifdef __cplusplus

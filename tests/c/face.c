@@ -15,7 +15,6 @@
 #endif
 
 #define IMAGE HADULMIR_IMAGE_SIZE
-#define EVENTS_FROM 57
 #define LENT_AT_MOST 4096
 #define TEXT_AT_MOST 8192
 
@@ -297,7 +296,7 @@ static void put_program(uint8_t *image, uint8_t number, uint8_t primacy, uint32_
 
 static uint8_t *entry_of(uint8_t *image, size_t i)
 {
-    return image + EVENTS_FROM + i * HADULMIR_RECORD_SIZE;
+    return image + HADULMIR_EVENTS_AT + i * HADULMIR_RECORD_SIZE;
 }
 
 /* Puts an entry behind the last one. */
@@ -405,12 +404,12 @@ static void listed_at(uint8_t *image, const char *wanted, int line)
         expect_at(image, list(need - 1), HADULMIR_TOO_SHORT, line);
     for (i = 0; i < 5; i++) {
         expect_at(image, list(need + more[i]), (int32_t)parts_of(wanted), line);
-        check(memcmp(lent_bytes, image + EVENTS_FROM, need) == 0, "records are the entries of the image", line);
+        check(memcmp(lent_bytes, image + HADULMIR_EVENTS_AT, need) == 0, "records are the entries of the image", line);
         text[0] = '\0';
         for (j = 0; j < parts_of(wanted); j++) {
             struct hadulmir_record r = hadulmir_record_at(lent_bytes, j);
-            snprintf(part, sizeof part, "%" PRIu64 " %" PRIu64 "-%" PRIu64 " %" PRIX32 "%s", r.id, r.effective_start,
-                     hadulmir_effective_end(&r), r.held, r.cancelled ? " cancelled" : "");
+            snprintf(part, sizeof part, "%" PRIu64 " %" PRIu64 "-%" PRIu64 " %" PRIX32 "%s", r.event.id, r.effective_start,
+                     hadulmir_effective_end(&r.event), r.held, r.cancelled ? " cancelled" : "");
             append(text, part);
         }
         if (strcmp(text, wanted) != 0)
@@ -513,9 +512,9 @@ static void test_add_program(void)
     blank_image(wanted, 0);
     put_program(wanted, 3, 0, 0);
     CHECK(same(image, wanted));
-    EXPECT(image, set_clock(HADULMIR_LAST_CLOCK, 0), 0);
+    EXPECT(image, set_clock(HADULMIR_CLOCK_AT_MOST, 0), 0);
     EXPECT(image, add(4, 65, 0xFFFFFFFFu), 0);
-    put(wanted, 8, HADULMIR_LAST_CLOCK);
+    put(wanted, 8, HADULMIR_CLOCK_AT_MOST);
     put_program(wanted, 4, 65, 0xFFFFFFFFu);
     CHECK(same(image, wanted));
 }
@@ -667,12 +666,12 @@ static void test_deliver_refusals(void)
     TRY(image, event(1, 0, 1, 0, UINT32_MAX, UINT32_MAX), HADULMIR_RECEIVED);
     begin(image, UINT64_C(8589934589));
     TRY(image, event(1, 0, 1, 0, UINT32_MAX, UINT32_MAX), HADULMIR_EVENT_EXPIRED);
-    begin(image, HADULMIR_LAST_CLOCK);
+    begin(image, HADULMIR_CLOCK_AT_MOST);
     e = drawn(event(1, 0, 1, 0, UINT32_MAX, UINT32_MAX), 3600, 3600, 3600, 3600);
     TRY(image, e, HADULMIR_EVENT_EXPIRED);
     begin(image, UINT64_C(8589934589));
     EXPECT(image, e, HADULMIR_RECEIVED);
-    ROWS(image, HADULMIR_LAST_CLOCK, "8589934590 1 2; 8589941790 1 3");
+    ROWS(image, HADULMIR_CLOCK_AT_MOST, "8589934590 1 2; 8589941790 1 3");
 }
 
 static void test_cancel(void)
@@ -731,14 +730,14 @@ static void test_set_clock(void)
     EXPECT(image, set_clock(4000, 0), 0);
     EXPECT(image, set_clock(3999, 0), HADULMIR_BAD_CLOCK);
     EXPECT(image, set_clock(0, 1632), HADULMIR_BAD_CLOCK);
-    EXPECT(image, set_clock(HADULMIR_LAST_CLOCK + 1, 1632), HADULMIR_BAD_CLOCK);
+    EXPECT(image, set_clock(HADULMIR_CLOCK_AT_MOST + 1, 1632), HADULMIR_BAD_CLOCK);
     EXPECT(image, set_clock(UINT64_MAX, 0), HADULMIR_BAD_CLOCK);
     EXPECT(image, event(1, 0, 1, 100, 5000, 600), HADULMIR_RECEIVED);
     EXPECT(image, set_clock(3999, 0), HADULMIR_BAD_CLOCK); /* 12 before 13 */
-    EXPECT(image, set_clock(HADULMIR_LAST_CLOCK + 1, 0), HADULMIR_BAD_CLOCK);
-    TRY(image, set_clock(HADULMIR_LAST_CLOCK, 34), 2);
-    TRY(image, set_clock(HADULMIR_LAST_CLOCK, 33), HADULMIR_TOO_SHORT);
-    TRY(image, set_clock(HADULMIR_LAST_CLOCK, 0), HADULMIR_TOO_SHORT);
+    EXPECT(image, set_clock(HADULMIR_CLOCK_AT_MOST + 1, 0), HADULMIR_BAD_CLOCK);
+    TRY(image, set_clock(HADULMIR_CLOCK_AT_MOST, 34), 2);
+    TRY(image, set_clock(HADULMIR_CLOCK_AT_MOST, 33), HADULMIR_TOO_SHORT);
+    TRY(image, set_clock(HADULMIR_CLOCK_AT_MOST, 0), HADULMIR_TOO_SHORT);
     ROWS(image, 4999, "");
 
     /* The image after a clock call, whole. */
@@ -754,9 +753,9 @@ static void test_set_clock(void)
     blank_image(wanted, 5600);
     put_program(wanted, 0, 1, 0);
     CHECK(same(image, wanted));
-    ROWS(image, HADULMIR_LAST_CLOCK, "");
-    ROWS(image, HADULMIR_LAST_CLOCK, "");
-    EXPECT(image, set_clock(HADULMIR_LAST_CLOCK - 1, 0), HADULMIR_BAD_CLOCK);
+    ROWS(image, HADULMIR_CLOCK_AT_MOST, "");
+    ROWS(image, HADULMIR_CLOCK_AT_MOST, "");
+    EXPECT(image, set_clock(HADULMIR_CLOCK_AT_MOST - 1, 0), HADULMIR_BAD_CLOCK);
 
     /* Rows at one time: 3, then 7, then 2, each by id. */
     begin(image, 4000);
@@ -1159,7 +1158,7 @@ static void unbroken_at(size_t at, size_t size, uint64_t number, int line)
 #define BREAKS(at, size, number) broken_at((at), (size), (number), __LINE__)
 #define KEEPS(at, size, number) unbroken_at((at), (size), (number), __LINE__)
 #define PROGRAM(n) (9 + 6 * (size_t)(n))
-#define ENTRY(i) (EVENTS_FROM + HADULMIR_RECORD_SIZE * (size_t)(i))
+#define ENTRY(i) (HADULMIR_EVENTS_AT + HADULMIR_RECORD_SIZE * (size_t)(i))
 
 static void test_broken(void)
 {
@@ -1178,9 +1177,9 @@ static void test_broken(void)
         all_refuse_at(other, lengths[i], __LINE__);
 
     /* limits */
-    blank_image(image, HADULMIR_LAST_CLOCK);
+    blank_image(image, HADULMIR_CLOCK_AT_MOST);
     EXPECT(image, list(0), 0);
-    blank_image(image, HADULMIR_LAST_CLOCK + 1);
+    blank_image(image, HADULMIR_CLOCK_AT_MOST + 1);
     all_refuse_at(image, IMAGE, __LINE__);
     blank_image(image, UINT64_MAX);
     all_refuse_at(image, IMAGE, __LINE__);
@@ -1266,7 +1265,7 @@ static void test_broken(void)
     KEEPS(0, 8, 5599);
     BREAKS(0, 8, 5600);
     BREAKS(0, 8, 5800);
-    BREAKS(0, 8, HADULMIR_LAST_CLOCK);
+    BREAKS(0, 8, HADULMIR_CLOCK_AT_MOST);
 
     /* held mask: within the controls, zero before the start, zero if cancelled, no bit shared */
     BREAKS(ENTRY(0) + 41, 4, 4);
@@ -1300,23 +1299,29 @@ static int draw_fits(int32_t randomisation, int32_t draw)
     return randomisation < 0 ? randomisation <= draw && draw <= 0 : 0 <= draw && draw <= randomisation;
 }
 
+static int outside(int32_t randomisation)
+{
+    return randomisation < -3600 || randomisation > 3600;
+}
+
 static int event_keeps_rules(const uint8_t *image, const struct hadulmir_record *r)
 {
+    const struct hadulmir_event *e = &r->event;
     uint64_t clock = hadulmir_clock_of(image);
-    int64_t drawn_start = (int64_t)r->start + r->start_draw;
-    int64_t end = drawn_start + r->duration + r->duration_draw;
+    int64_t drawn_start = (int64_t)e->start + e->start_draw;
+    int64_t end = drawn_start + e->duration + e->duration_draw;
 
-    if (r->program > 7 || image[9 + 6 * r->program] != 1)
+    if (e->program > 7 || image[9 + 6 * e->program] != 1)
         return 0;
-    if (r->controls == 0 || r->start < 3600 || r->duration == 0 || (int64_t)r->duration + r->duration_draw < 1)
+    if (e->controls == 0 || e->start < 3600 || e->duration == 0 || (int64_t)e->duration + e->duration_draw < 1)
         return 0;
-    if (abs(r->randomize_start) > 3600 || abs(r->randomize_duration) > 3600)
+    if (outside(e->randomize_start) || outside(e->randomize_duration))
         return 0;
-    if (!draw_fits(r->randomize_start, r->start_draw) || !draw_fits(r->randomize_duration, r->duration_draw))
+    if (!draw_fits(e->randomize_start, e->start_draw) || !draw_fits(e->randomize_duration, e->duration_draw))
         return 0;
     if (r->effective_start < (uint64_t)drawn_start || r->effective_start >= (uint64_t)end || (uint64_t)end <= clock)
         return 0;
-    if ((r->held & ~r->controls) != 0 || r->cancelled > 1)
+    if ((r->held & ~e->controls) != 0 || r->cancelled > 1)
         return 0;
     return r->held == 0 || (clock >= r->effective_start && !r->cancelled);
 }
@@ -1327,7 +1332,7 @@ static int keeps_rules(const uint8_t *image)
     uint64_t last = 0;
     size_t i;
 
-    if (hadulmir_clock_of(image) > HADULMIR_LAST_CLOCK || image[8] > 48)
+    if (hadulmir_clock_of(image) > HADULMIR_CLOCK_AT_MOST || image[8] > 48)
         return 0;
     for (i = 0; i < 8; i++) {
         const uint8_t *p = image + 9 + 6 * i;
@@ -1341,11 +1346,11 @@ static int keeps_rules(const uint8_t *image)
         if (image[i] != 0)
             return 0;
     for (i = 0; i < image[8]; i++) {
-        struct hadulmir_record r = hadulmir_record_at(image + EVENTS_FROM, i);
+        struct hadulmir_record r = hadulmir_record_of(image, i);
 
-        if ((i > 0 && r.id <= last) || !event_keeps_rules(image, &r) || (r.held & taken) != 0)
+        if ((i > 0 && r.event.id <= last) || !event_keeps_rules(image, &r) || (r.held & taken) != 0)
             return 0;
-        last = r.id;
+        last = r.event.id;
         taken |= r.held;
     }
     return 1;
@@ -1518,14 +1523,28 @@ static void test_power(void)
 
 /* THE HEADER */
 
-static void test_header(void)
+static void test_names(void)
 {
-    static const uint8_t row[34] = {[24] = 9, [25] = 1, [33] = 7, [17] = 1, [18] = 2};
-    int32_t n;
+    char version[16];
 
     CHECK(HADULMIR_IMAGE_SIZE == 2265 && HADULMIR_ROW_SIZE == 17 && HADULMIR_ROWS_AT_MOST == 96 && HADULMIR_ROWS_SIZE == 1632);
-    CHECK(HADULMIR_RECORD_SIZE == 46 && HADULMIR_EVENTS_AT_MOST == 48 && HADULMIR_RECORDS_SIZE == 2208);
-    CHECK(HADULMIR_LAST_CLOCK == UINT64_C(9000000000));
+    CHECK(HADULMIR_RECORD_SIZE == 46 && HADULMIR_EVENTS_AT_MOST == 48 && HADULMIR_RECORDS_SIZE == 2208 && HADULMIR_ID_SIZE == 8);
+    CHECK(HADULMIR_PROGRAMS_AT_MOST == 8 && HADULMIR_CONTROLS_AT_MOST == 32 && HADULMIR_CLOCK_AT_MOST == UINT64_C(9000000000));
+    CHECK(HADULMIR_CLOCK_AT == 0 && HADULMIR_COUNT_AT == 8 && HADULMIR_PROGRAMS_AT == 9 && HADULMIR_PROGRAM_SIZE == 6);
+    CHECK(HADULMIR_EVENTS_AT == 57 && HADULMIR_IMAGE_LAYOUT == 1);
+    CHECK(HADULMIR_BAD_IMAGE == -2 && HADULMIR_PROGRAM_TOO_LARGE == -3 && HADULMIR_PROGRAM_ADDED == -4 && HADULMIR_PRIMACY_RESERVED == -5);
+    CHECK(HADULMIR_PROGRAM_UNKNOWN == -6 && HADULMIR_EVENT_INVALID == -7 && HADULMIR_EVENT_DIFFERS == -8 && HADULMIR_EVENT_EXPIRED == -9);
+    CHECK(HADULMIR_FULL == -10 && HADULMIR_NOT_HELD == -11 && HADULMIR_BAD_CLOCK == -12 && HADULMIR_TOO_SHORT == -13);
+    CHECK(HADULMIR_CONTROL_TOO_LARGE == -14);
+    snprintf(version, sizeof version, "%d.%d.%d", HADULMIR_VERSION / 10000, HADULMIR_VERSION / 100 % 100, HADULMIR_VERSION % 100);
+    CHECK(strcmp(version, HADULMIR_VERSION_TEXT) == 0);
+}
+
+static void test_helpers(void)
+{
+    static const uint8_t row[34] = {[24] = 9, [25] = 1, [33] = 7, [17] = 1, [18] = 2};
+    int32_t n, m;
+
     for (n = -40000; n <= 40000; n++) {
         uint8_t bytes[2];
         uint16_t bits = hadulmir_signed(n);
@@ -1540,38 +1559,66 @@ static void test_header(void)
     CHECK(hadulmir_signed(INT32_MIN) == 0x8000 && hadulmir_signed(INT32_MAX) == 0x8000);
     for (n = -20; n <= 100; n++) {
         CHECK(hadulmir_is_refusal(n) == (n < 0));
-        CHECK(hadulmir_response_for(n) == (n == -7 ? 253 : n == -9 ? 254 : n == 1 ? 1 : n == 6 ? 6 : 0));
+        CHECK(hadulmir_response_for(n) == (n == -7 ? 253 : n == -9 ? 254 : 0));
     }
+    /* a text of its own for each refusal, on one line; one text for all that is none */
+    for (n = -15; n <= 1; n++)
+        for (m = -15; m <= 1; m++) {
+            int one = n == m || ((n < -14 || n > -2) && (m < -14 || m > -2));
+
+            CHECK((strcmp(hadulmir_refusal_text(n), hadulmir_refusal_text(m)) == 0) == one);
+            CHECK(strlen(hadulmir_refusal_text(n)) > 0 && strchr(hadulmir_refusal_text(n), '\n') == NULL);
+        }
     CHECK(hadulmir_row_at(row, 1).time == UINT64_C(0x0102000000000009) && hadulmir_row_at(row, 1).id == UINT64_C(0x0100000000000000)
           && hadulmir_row_at(row, 1).code == 7);
-    CHECK(HADULMIR_BAD_IMAGE == -2 && HADULMIR_PROGRAM_TOO_LARGE == -3 && HADULMIR_PROGRAM_ADDED == -4 && HADULMIR_PRIMACY_RESERVED == -5);
-    CHECK(HADULMIR_PROGRAM_UNKNOWN == -6 && HADULMIR_EVENT_INVALID == -7 && HADULMIR_EVENT_DIFFERS == -8 && HADULMIR_EVENT_EXPIRED == -9);
-    CHECK(HADULMIR_FULL == -10 && HADULMIR_NOT_HELD == -11 && HADULMIR_BAD_CLOCK == -12 && HADULMIR_TOO_SHORT == -13);
-    CHECK(HADULMIR_CONTROL_TOO_LARGE == -14);
 }
 
-/* A record with every field different, through the part and the helper. */
+/* Whether a record has the fields of test_record's event, each of them different. */
+static int has_fields(const struct hadulmir_record *r)
+{
+    const struct hadulmir_event *e = &r->event;
+
+    return e->id == UINT64_C(0x0102030405060708) && e->program == 7 && e->controls == 0xA1B2C3D4u && e->created == 0x11223344
+           && e->start == 0x55667788 && e->duration == 0x99AABBCCu && e->randomize_start == -3600 && e->randomize_duration == 3599
+           && e->start_draw == -2 && e->duration_draw == 3 && r->effective_start == 0x55667786 && r->held == 0 && r->cancelled == 0;
+}
+
+/* A record with every field different, through the part and the helpers, and the image as its readers see it. */
 static void test_record(void)
 {
-    uint8_t image[IMAGE];
+    uint8_t image[IMAGE], again[IMAGE];
     struct hadulmir_record r;
+    struct hadulmir_program p;
 
     fresh(image);
-    EXPECT(image, add(7, 191, 0), 0);
+    EXPECT(image, add(7, 191, 0xFF000001u), 0);
+    CHECK(hadulmir_count_of(image) == 0);
+    memcpy(again, image, IMAGE);
     EXPECT(image, drawn(event(UINT64_C(0x0102030405060708), 7, 0xA1B2C3D4u, 0x11223344, 0x55667788, 0x99AABBCCu), -3600, -2, 3599, 3),
            HADULMIR_RECEIVED);
     EXPECT(image, list(46), 1);
     r = hadulmir_record_at(lent_bytes, 0);
-    CHECK(r.id == UINT64_C(0x0102030405060708) && r.program == 7 && r.controls == 0xA1B2C3D4u && r.created == 0x11223344);
-    CHECK(r.start == 0x55667788 && r.duration == 0x99AABBCCu);
-    CHECK(r.randomize_start == -3600 && r.randomize_duration == 3599 && r.start_draw == -2 && r.duration_draw == 3);
-    CHECK(r.effective_start == 0x55667786 && r.held == 0 && r.cancelled == 0);
-    CHECK(hadulmir_effective_end(&r) == UINT64_C(0x55667786) + 0x99AABBCCu + 3);
+    CHECK(has_fields(&r));
+    CHECK(hadulmir_effective_end(&r.event) == UINT64_C(0x55667786) + 0x99AABBCCu + 3);
+    CHECK(hadulmir_count_of(image) == 1);
+    p = hadulmir_program_of(image, 7);
+    CHECK(p.added == 1 && p.primacy == 191 && p.defaults == 0xFF000001u);
+    p = hadulmir_program_of(image, 6);
+    CHECK(p.added == 0 && p.primacy == 0 && p.defaults == 0);
+
+    /* the same event by its struct, as it was read out of the image */
+    r = hadulmir_record_of(image, 0);
+    CHECK(has_fields(&r));
+    CHECK(hadulmir_deliver_event(again, IMAGE, &r.event) == HADULMIR_RECEIVED && same(again, image));
+    CHECK(hadulmir_deliver_event(again, IMAGE, &r.event) == 0 && same(again, image));
+    r.event.start_draw = 65534; /* cut off to 16 bits this is -2 */
+    CHECK(hadulmir_deliver_event(again, IMAGE, &r.event) == HADULMIR_EVENT_INVALID && same(again, image));
 }
 
 int main(void)
 {
-    test_header();
+    test_names();
+    test_helpers();
     test_record();
     test_fresh();
     test_add_program();

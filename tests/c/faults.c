@@ -4,17 +4,17 @@
  */
 #include "hadulmir.h"
 
-int32_t __real_hadulmir_fresh(uint8_t *, size_t);
-int32_t __real_hadulmir_add_program(uint8_t *, size_t, uint8_t, uint8_t, uint32_t);
-int32_t __real_hadulmir_deliver(uint8_t *, size_t, uint64_t, uint8_t, uint32_t, uint32_t, uint32_t, uint32_t, uint16_t, uint16_t, uint16_t,
+int32_t __real_hadulmir_fresh(uint8_t *, uint64_t);
+int32_t __real_hadulmir_add_program(uint8_t *, uint64_t, uint8_t, uint8_t, uint32_t);
+int32_t __real_hadulmir_deliver(uint8_t *, uint64_t, uint64_t, uint8_t, uint32_t, uint32_t, uint32_t, uint32_t, uint16_t, uint16_t, uint16_t,
                                 uint16_t);
-int32_t __real_hadulmir_cancel(uint8_t *, size_t, uint64_t);
-int32_t __real_hadulmir_set_clock(uint8_t *, size_t, uint64_t, uint8_t *, size_t);
-int32_t __real_hadulmir_ask(uint8_t *, size_t, uint8_t, uint8_t *, size_t);
-int32_t __real_hadulmir_list(uint8_t *, size_t, uint8_t *, size_t);
+int32_t __real_hadulmir_cancel(uint8_t *, uint64_t, uint64_t);
+int32_t __real_hadulmir_set_clock(uint8_t *, uint64_t, uint64_t, uint8_t *, uint64_t);
+int32_t __real_hadulmir_ask(const uint8_t *, uint64_t, uint8_t, uint8_t *, uint64_t);
+int32_t __real_hadulmir_list(const uint8_t *, uint64_t, uint8_t *, uint64_t);
 
 /* 1: a longer buffer is accepted. */
-int32_t __wrap_hadulmir_fresh(uint8_t *image, size_t image_len)
+int32_t __wrap_hadulmir_fresh(uint8_t *image, uint64_t image_len)
 {
     if (FAULT == 1 && image_len == HADULMIR_IMAGE_SIZE + 1)
         image_len--;
@@ -22,7 +22,7 @@ int32_t __wrap_hadulmir_fresh(uint8_t *image, size_t image_len)
 }
 
 /* 2: a refusal of the primacy changes the last byte of the image. */
-int32_t __wrap_hadulmir_add_program(uint8_t *image, size_t image_len, uint8_t number, uint8_t primacy, uint32_t defaults)
+int32_t __wrap_hadulmir_add_program(uint8_t *image, uint64_t image_len, uint8_t number, uint8_t primacy, uint32_t defaults)
 {
     int32_t returned = __real_hadulmir_add_program(image, image_len, number, primacy, defaults);
 
@@ -32,7 +32,7 @@ int32_t __wrap_hadulmir_add_program(uint8_t *image, size_t image_len, uint8_t nu
 }
 
 /* 3: the draws are exchanged. 4: a refusal loses its sign. 5: a repeat is new. */
-int32_t __wrap_hadulmir_deliver(uint8_t *image, size_t image_len, uint64_t id, uint8_t program, uint32_t controls, uint32_t created,
+int32_t __wrap_hadulmir_deliver(uint8_t *image, uint64_t image_len, uint64_t id, uint8_t program, uint32_t controls, uint32_t created,
                                 uint32_t start, uint32_t duration, uint16_t randomize_start, uint16_t randomize_duration,
                                 uint16_t start_draw, uint16_t duration_draw)
 {
@@ -46,7 +46,7 @@ int32_t __wrap_hadulmir_deliver(uint8_t *image, size_t image_len, uint64_t id, u
 }
 
 /* 6: the mark is set and the mask is left. */
-int32_t __wrap_hadulmir_cancel(uint8_t *image, size_t image_len, uint64_t id)
+int32_t __wrap_hadulmir_cancel(uint8_t *image, uint64_t image_len, uint64_t id)
 {
     uint8_t held = image_len > 101 ? image[101] : 0;
     int32_t returned = __real_hadulmir_cancel(image, image_len, id);
@@ -58,14 +58,14 @@ int32_t __wrap_hadulmir_cancel(uint8_t *image, size_t image_len, uint64_t id)
 
 /* 7: one byte is written behind the last row. 8: one byte is written behind the buffer. 9: the last row is dropped. 10: a refused call has
    written a row. 11: a buffer that fits is too short. */
-int32_t __wrap_hadulmir_set_clock(uint8_t *image, size_t image_len, uint64_t reading, uint8_t *rows, size_t rows_len)
+int32_t __wrap_hadulmir_set_clock(uint8_t *image, uint64_t image_len, uint64_t reading, uint8_t *rows, uint64_t rows_len)
 {
     int32_t returned;
 
     if (FAULT == 11 && rows_len == HADULMIR_ROWS_SIZE && reading == 6000)
         rows_len--;
     returned = __real_hadulmir_set_clock(image, image_len, reading, rows, rows_len);
-    if (FAULT == 7 && returned >= 0 && rows_len > (size_t)returned * HADULMIR_ROW_SIZE)
+    if (FAULT == 7 && returned >= 0 && rows_len > (uint64_t)returned * HADULMIR_ROW_SIZE)
         rows[(size_t)returned * HADULMIR_ROW_SIZE] ^= 1;
     if (FAULT == 8 && returned > 0)
         rows[rows_len] ^= 1;
@@ -75,7 +75,7 @@ int32_t __wrap_hadulmir_set_clock(uint8_t *image, size_t image_len, uint64_t rea
 }
 
 /* 12: an id is written beside a default. */
-int32_t __wrap_hadulmir_ask(uint8_t *image, size_t image_len, uint8_t control, uint8_t *id, size_t id_len)
+int32_t __wrap_hadulmir_ask(const uint8_t *image, uint64_t image_len, uint8_t control, uint8_t *id, uint64_t id_len)
 {
     int32_t returned = __real_hadulmir_ask(image, image_len, control, id, id_len);
 
@@ -85,12 +85,12 @@ int32_t __wrap_hadulmir_ask(uint8_t *image, size_t image_len, uint8_t control, u
 }
 
 /* 13: a byte of the image is changed. 14: a byte behind the image is read, which valgrind alone sees. */
-int32_t __wrap_hadulmir_list(uint8_t *image, size_t image_len, uint8_t *records, size_t records_len)
+int32_t __wrap_hadulmir_list(const uint8_t *image, uint64_t image_len, uint8_t *records, uint64_t records_len)
 {
     int32_t returned = __real_hadulmir_list(image, image_len, records, records_len);
 
     if (FAULT == 13 && returned == 48)
-        image[0] ^= 1;
+        ((uint8_t *)image)[0] ^= 1;
     if (FAULT == 14 && returned >= 0 && image[image_len] == 0x77 && image[image_len + 1] == 0x78)
         return returned + 1;
     return returned;

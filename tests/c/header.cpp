@@ -4,6 +4,7 @@
 
 #include <cstdio>
 #include <cstring>
+#include <type_traits>
 
 static unsigned passed, failed;
 
@@ -21,9 +22,17 @@ static void check(bool ok, int line)
 
 static_assert(HADULMIR_IMAGE_SIZE == 2265 && HADULMIR_ROW_SIZE == 17 && HADULMIR_ROWS_AT_MOST == 96, "sizes");
 static_assert(HADULMIR_ROWS_SIZE == 1632 && HADULMIR_RECORD_SIZE == 46 && HADULMIR_EVENTS_AT_MOST == 48, "sizes");
-static_assert(HADULMIR_RECORDS_SIZE == 2208 && HADULMIR_ID_SIZE == 8 && HADULMIR_PROGRAMS == 8 && HADULMIR_CONTROLS == 32, "sizes");
-static_assert(HADULMIR_LAST_CLOCK == 9000000000u && HADULMIR_STACK_SIZE > 0, "limits");
-static_assert(HADULMIR_IMAGE_SIZE == 8 + 1 + HADULMIR_PROGRAMS * 6 + HADULMIR_EVENTS_AT_MOST * HADULMIR_RECORD_SIZE, "image layout");
+static_assert(HADULMIR_RECORDS_SIZE == 2208 && HADULMIR_ID_SIZE == 8 && HADULMIR_PROGRAMS_AT_MOST == 8 && HADULMIR_CONTROLS_AT_MOST == 32, "sizes");
+static_assert(HADULMIR_CLOCK_AT_MOST == 9000000000u && HADULMIR_STACK_SIZE > 0, "limits");
+static_assert(HADULMIR_VERSION >= 10000 && sizeof HADULMIR_VERSION_TEXT > 5 && HADULMIR_IMAGE_LAYOUT > 0, "version");
+static_assert(HADULMIR_COUNT_AT == HADULMIR_CLOCK_AT + 8 && HADULMIR_PROGRAMS_AT == HADULMIR_COUNT_AT + 1, "image layout");
+static_assert(HADULMIR_EVENTS_AT == HADULMIR_PROGRAMS_AT + HADULMIR_PROGRAMS_AT_MOST * HADULMIR_PROGRAM_SIZE, "image layout");
+static_assert(HADULMIR_IMAGE_SIZE == HADULMIR_EVENTS_AT + HADULMIR_EVENTS_AT_MOST * HADULMIR_RECORD_SIZE, "image layout");
+
+// A length is a 64-bit number wherever the header is compiled, and what is only read is lent as such.
+static_assert(std::is_same<decltype(&hadulmir_fresh), int32_t (*)(uint8_t *, uint64_t)>::value, "lengths");
+static_assert(std::is_same<decltype(&hadulmir_ask), int32_t (*)(const uint8_t *, uint64_t, uint8_t, uint8_t *, uint64_t)>::value, "ask");
+static_assert(std::is_same<decltype(&hadulmir_list), int32_t (*)(const uint8_t *, uint64_t, uint8_t *, uint64_t)>::value, "list");
 
 // Every refusal has a name.
 static bool is_named(int32_t returned)
@@ -53,13 +62,13 @@ int main()
     uint8_t image[HADULMIR_IMAGE_SIZE], rows[HADULMIR_ROWS_SIZE], records[HADULMIR_RECORDS_SIZE], id[HADULMIR_ID_SIZE];
 
     for (int32_t n = -20; n < 20; n++)
-        CHECK(is_named(n) == (n <= -2 && n >= -14));
+        CHECK(is_named(n) == (n <= -2 && n >= -14) && is_named(n) == (std::strcmp(hadulmir_refusal_text(n), hadulmir_refusal_text(0)) != 0));
 
     CHECK(hadulmir_fresh(image, sizeof image) == 0);
     CHECK(hadulmir_add_program(image, sizeof image, 0, 1, 0x2) == 0);
     int32_t returned = hadulmir_deliver(image, sizeof image, 7, 0, 0x1, 100, 5000, 600, hadulmir_signed(-300), hadulmir_signed(0),
                                         hadulmir_signed(-300), hadulmir_signed(0));
-    CHECK(returned == HADULMIR_RECEIVED && !hadulmir_is_refusal(returned) && hadulmir_response_for(returned) == HADULMIR_RECEIVED);
+    CHECK(returned == HADULMIR_RECEIVED && !hadulmir_is_refusal(returned) && hadulmir_response_for(returned) == 0);
     CHECK(hadulmir_set_clock(image, sizeof image, 4700, rows, sizeof rows) == 1);
     hadulmir_row row = hadulmir_row_at(rows, 0);
     CHECK(row.time == 4700 && row.id == 7 && row.code == HADULMIR_STARTED);
@@ -72,14 +81,19 @@ int main()
 
     CHECK(hadulmir_list(image, sizeof image, records, sizeof records) == 1);
     hadulmir_record record = hadulmir_record_at(records, 0);
-    CHECK(record.id == 7 && record.program == 0 && record.controls == 1 && record.created == 100 && record.start == 5000);
-    CHECK(record.duration == 600 && record.randomize_start == -300 && record.randomize_duration == 0);
-    CHECK(record.start_draw == -300 && record.duration_draw == 0 && hadulmir_signed_at(records + 29) == -300);
+    hadulmir_event event = record.event;
+    CHECK(event.id == 7 && event.program == 0 && event.controls == 1 && event.created == 100 && event.start == 5000);
+    CHECK(event.duration == 600 && event.randomize_start == -300 && event.randomize_duration == 0);
+    CHECK(event.start_draw == -300 && event.duration_draw == 0 && hadulmir_signed_at(records + 29) == -300);
     CHECK(record.effective_start == 4700 && record.held == 1 && record.cancelled == 0);
-    CHECK(hadulmir_effective_end(&record) == 5300);
+    CHECK(hadulmir_effective_end(&event) == 5300);
+    CHECK(hadulmir_deliver_event(image, sizeof image, &event) == 0);
+    CHECK(hadulmir_count_of(image) == 1 && hadulmir_record_of(image, 0).event.id == 7 && hadulmir_record_of(image, 0).held == 1);
+    hadulmir_program program = hadulmir_program_of(image, 0);
+    CHECK(program.added == 1 && program.primacy == 1 && program.defaults == 0x2);
 
     returned = hadulmir_cancel(image, sizeof image, 7);
-    CHECK(returned == HADULMIR_CANCELLED && hadulmir_response_for(returned) == HADULMIR_CANCELLED);
+    CHECK(returned == HADULMIR_CANCELLED && hadulmir_response_for(returned) == 0);
     CHECK(hadulmir_cancel(image, sizeof image, 8) == HADULMIR_NOT_HELD && hadulmir_is_refusal(HADULMIR_NOT_HELD));
     CHECK(hadulmir_response_for(HADULMIR_EVENT_INVALID) == HADULMIR_REJECTED_INVALID);
     CHECK(hadulmir_response_for(HADULMIR_EVENT_EXPIRED) == HADULMIR_REJECTED_EXPIRED);

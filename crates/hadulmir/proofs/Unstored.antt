@@ -130,18 +130,18 @@ held-bytes s e =
     ∙ take-at (flat entryBytes hs) (flat entryBytes rest) (entrySize * s .count) size
 
 module _ {l : List ℕ} {b : Loaded} (f : Formed l b) (lent : List ℕ) (e : sound (b .schedule) ≡ true) where
-  pub listed-short : length lent / entrySize < b .schedule .count → {r : ℕ} → r ≡ negative 13 → faceOf r l lent ≡ face l lists lent
+  pub listed-short : length lent < entrySize * b .schedule .count → {r : ℕ} → r ≡ negative 13 → faceOf r l lent ≡ face l lists lent
   listed-short h p =
       ap (λ (r : ℕ). faceOf r l lent) p
-      ∙ sym (face-is f lists lent (lists-short (b .schedule) e (length lent / entrySize) h .leaves _ (length-replicate (length lent / entrySize) (recordOf noEntry))) (none-fits lent))
+      ∙ sym (face-is f lists lent (lists-short (b .schedule) e (length lent / entrySize) (omega (arith, h)) .leaves _ (length-replicate (length lent / entrySize) (recordOf noEntry))) (none-fits lent))
 
-  pub listed-all : Bytes l → b .schedule .count ≤ length lent / entrySize → {m : List ℕ} → m ≡ over (take (entrySize * b .schedule .count) (drop entriesAt l)) lent
+  pub listed-all : Bytes l → entrySize * b .schedule .count ≤ length lent → {m : List ℕ} → m ≡ over (take (entrySize * b .schedule .count) (drop entriesAt l)) lent
       → faceOf (b .schedule .count) l m ≡ face l lists lent
   listed-all bytes h p =
       let s = b .schedule in
       let k = length lent / entrySize in
       let old = replicate k (recordOf noEntry) in
-      let q = lists-all s e k h .leaves old (length-replicate k (recordOf noEntry)) in
+      let q = lists-all s e k (omega (arith, h)) .leaves old (length-replicate k (recordOf noEntry)) in
       let front : (r : List Record) → take (s .count) (over (held s) r) ≡ held s = λ r. take-at (held s) (drop (length (held s)) r) (s .count) (held-count s e) in
       let written = ap (λ (r : List Record). flat (λ (r : Record). entryBytes (r .entry)) (take (s .count) (over r old))) (front noRecords) ∙ ap (flat (λ (r : Record). entryBytes (r .entry))) (front old) ∙ flat-records (view s .entries) in
       let copied = ap (λ (i : List ℕ). take (entrySize * s .count) (drop entriesAt i)) (sym (is-image f bytes)) ∙ held-bytes s e in

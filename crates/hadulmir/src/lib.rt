@@ -187,9 +187,10 @@ pub extern "C" fn hadulmir_list(image: &[u8], records: &mut [u8]) -> u32
         return answers::negative(2);
     }
     let n = s.count;
-    if records.len() / Entry::SIZE < n {
+    let size = Entry::SIZE * n;
+    if records.len() < size {
         return answers::negative(13);
     }
-    octets::copy(records, &image[Schedule::ENTRIES_AT..], Entry::SIZE * n);
+    octets::copy(records, &image[Schedule::ENTRIES_AT..], size);
     n as u32
 }

@@ -43,6 +43,9 @@ returns-2 c =
     let d = c .before .before in
     unimaged _ (is-imaged (known d) (d .is-sound .ensures) ∙ not-true _ (c .before .if2 .taken)) _ _ (c .negative2 .ensures)
 
+mul-size : tie.Need-mul-size
+mul-size c = omega (arith, rules _ (kept c) .count)
+
 returns-3 : tie.Need-returns-3
 returns-3 c =
     let d = c .before .before in
@@ -85,11 +88,11 @@ hadulmir-list-spec =
     (λ c κs. search needs)
     (λ c κs. search needs)
     returns-2
+    mul-size
     (λ c κs. search needs)
     returns-3
     sub-copy
     part-copy-start
-    (λ c. search needs)
     (λ c. search needs)
     (λ c κs. search needs)
     cast-result
