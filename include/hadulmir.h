@@ -64,8 +64,9 @@ extern "C" {
 /** No archive fits a target that is refused here: bytes are 8 bits wide, an int 32, a pointer 32 or 64. */
 typedef char hadulmir_fits_the_target[CHAR_BIT == 8 && sizeof(int) == 4 && (sizeof(void *) == 4 || sizeof(void *) == 8) ? 1 : -1];
 
-/** This version: as a number, 10,000 for the first part of its name, 100 for the second, 1 for the third; and as text. */
+/** This version as a number: 10,000 for the first part of its name, 100 for the second, 1 for the third. */
 #define HADULMIR_VERSION 10000
+/** This version as text. */
 #define HADULMIR_VERSION_TEXT "1.0.0"
 
 /** The layout of the image. Versions with the same number here take up each other's images: a host stores it with the image. */
@@ -74,11 +75,11 @@ typedef char hadulmir_fits_the_target[CHAR_BIT == 8 && sizeof(int) == 4 && (size
 /** Bytes of an image. */
 #define HADULMIR_IMAGE_SIZE 2265
 
-/** Where things stand in an image (see THE IMAGE below): the clock, the count of held events, the programs, the events. */
-#define HADULMIR_CLOCK_AT 0
-#define HADULMIR_COUNT_AT 8
-#define HADULMIR_PROGRAMS_AT 9
-#define HADULMIR_EVENTS_AT 57
+/* Where things stand in an image; see THE IMAGE below. */
+#define HADULMIR_CLOCK_AT 0    /**< the clock */
+#define HADULMIR_COUNT_AT 8    /**< the count of held events */
+#define HADULMIR_PROGRAMS_AT 9 /**< the programs, from number 0 on */
+#define HADULMIR_EVENTS_AT 57  /**< the events, by ascending id */
 
 /** Bytes of a program in an image. */
 #define HADULMIR_PROGRAM_SIZE 6
@@ -104,8 +105,10 @@ typedef char hadulmir_fits_the_target[CHAR_BIT == 8 && sizeof(int) == 4 && (size
 /** Bytes of an id in a buffer. */
 #define HADULMIR_ID_SIZE 8
 
-/** Programs have the numbers 0 to 7, controls the numbers 0 to 31. */
+/** Programs have the numbers 0 to 7. */
 #define HADULMIR_PROGRAMS_AT_MOST 8
+
+/** Controls have the numbers 0 to 31. */
 #define HADULMIR_CONTROLS_AT_MOST 32
 
 /** The last reading that a clock call accepts. */
@@ -347,16 +350,16 @@ static inline uint16_t hadulmir_signed(int32_t value)
 
 /** An event as it is delivered. Fields that are left out of an initialiser are 0: no randomisation. */
 struct hadulmir_event {
-    uint64_t id;
-    uint8_t program;
-    uint32_t controls;
-    uint32_t created;
-    uint32_t start;
-    uint32_t duration;
-    int32_t randomize_start;
-    int32_t randomize_duration;
-    int32_t start_draw;
-    int32_t duration_draw;
+    uint64_t id;                /**< the host's own handle for it */
+    uint8_t program;            /**< the number of its program */
+    uint32_t controls;          /**< the mask of its controls, not 0 */
+    uint32_t created;           /**< creation time; at equal primacy the later one wins */
+    uint32_t start;             /**< at least 3,600 */
+    uint32_t duration;          /**< in seconds, at least 1 */
+    int32_t randomize_start;    /**< -3,600 to 3,600 */
+    int32_t randomize_duration; /**< -3,600 to 3,600 */
+    int32_t start_draw;         /**< between 0 and randomize_start, both included */
+    int32_t duration_draw;      /**< between 0 and randomize_duration, both included */
 };
 
 /** hadulmir_deliver with the fields by name and the signed ones as signed numbers. */
@@ -392,11 +395,11 @@ static inline uint64_t hadulmir_id_at(const uint8_t *id)
     return hadulmir_number_at(id, HADULMIR_ID_SIZE);
 }
 
-/** A response row: at `time` the event `id` gives the response code `code`, which is 2, 3 or 7. */
+/** A response row. */
 struct hadulmir_row {
-    uint64_t time;
-    uint64_t id;
-    uint8_t code;
+    uint64_t time; /**< when */
+    uint64_t id;   /**< which event */
+    uint8_t code;  /**< gives which response code: 2, 3 or 7 */
 };
 
 /** Row i of a buffer that hadulmir_set_clock wrote; i is below the count that it answered. */
@@ -411,12 +414,12 @@ static inline struct hadulmir_row hadulmir_row_at(const uint8_t *rows, size_t i)
     return row;
 }
 
-/** A held event: as it was delivered, its effective start, the mask of what it holds now, and whether it is cancelled (0 or 1). */
+/** A held event. */
 struct hadulmir_record {
-    struct hadulmir_event event;
-    uint64_t effective_start;
-    uint32_t held;
-    uint8_t cancelled;
+    struct hadulmir_event event; /**< as it was delivered */
+    uint64_t effective_start;    /**< see THE IMAGE above */
+    uint32_t held;               /**< the mask of the controls that it holds now */
+    uint8_t cancelled;           /**< 0 or 1 */
 };
 
 /** Record i of a buffer that hadulmir_list wrote; i is below the count that it answered. */
@@ -461,11 +464,11 @@ static inline uint8_t hadulmir_count_of(const uint8_t *image)
     return image[HADULMIR_COUNT_AT];
 }
 
-/** A program: whether it was added (0 or 1), its primacy and the mask of its defaults; both 0 if it was not. */
+/** A program. */
 struct hadulmir_program {
-    uint8_t added;
-    uint8_t primacy;
-    uint32_t defaults;
+    uint8_t added;     /**< 0 or 1; if 0, so are the others */
+    uint8_t primacy;   /**< less is better */
+    uint32_t defaults; /**< the mask of the controls that it has a default for */
 };
 
 /** Program `number`, which is at most 7. */

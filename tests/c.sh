@@ -60,6 +60,12 @@ step "it has no writable data" no_data
 # --- the header
 
 step "header alone, C99" $c99 -Wconversion -fsyntax-only -x c include/hadulmir.h
+# refuses WHAT VALUE: the header does not compile where a name of <limits.h> has another value, and says where it stopped
+refuses() {
+    printf '#include <limits.h>\n#undef %s\n#define %s %s\n#include "hadulmir.h"\n' "$1" "$1" "$2" >"$out/target.c"
+    ! $c99 -fsyntax-only "$out/target.c" && grep -q 'error: .*hadulmir_fits_the_target' "$out/log"
+}
+step "header refuses a target with bytes of 16 bits" refuses CHAR_BIT 16
 for standard in c++11 c++17; do
     step "header.cpp, $standard" g++ $warn -std=$standard -O2 tests/c/header.cpp "$archive" -o "$out/header"
     step "header.cpp runs, $standard" passes header "$out/header"
