@@ -1521,6 +1521,52 @@ static void test_power(void)
     }
 }
 
+/* A FRESH IMAGE WITH WHAT STILL COUNTS, by the steps of docs/HOST.md */
+
+/* Makes `to` out of what `from` holds: programs, then the events that are not cancelled, then its clock. */
+static void move_over(uint8_t *to, const uint8_t *from)
+{
+    uint8_t rows[HADULMIR_ROWS_SIZE];
+    size_t i;
+
+    fresh(to);
+    for (i = 0; i < HADULMIR_PROGRAMS_AT_MOST; i++) {
+        struct hadulmir_program p = hadulmir_program_of(from, (uint8_t)i);
+
+        if (p.added)
+            CHECK(hadulmir_add_program(to, IMAGE, (uint8_t)i, p.primacy, p.defaults) == 0);
+    }
+    for (i = 0; i < hadulmir_count_of(from); i++) {
+        struct hadulmir_record r = hadulmir_record_of(from, i);
+
+        if (!r.cancelled)
+            CHECK(hadulmir_deliver_event(to, IMAGE, &r.event) == HADULMIR_RECEIVED);
+    }
+    CHECK(hadulmir_set_clock(to, IMAGE, hadulmir_clock_of(from), rows, sizeof rows) >= 0);
+}
+
+static void test_fresh_again(void)
+{
+    uint8_t image[IMAGE], moved[IMAGE];
+
+    fresh(image);
+    EXPECT(image, add(0, 1, 0x3), 0);
+    EXPECT(image, add(5, 65, 0x4), 0);
+    ROWS(image, 4000, "");
+    EXPECT(image, event(1, 0, 0x1, 100, 5000, 600), HADULMIR_RECEIVED);
+    EXPECT(image, event(2, 0, 0x1, 200, 5300, 60), HADULMIR_RECEIVED);
+    EXPECT(image, drawn(event(3, 5, 0x6, 50, 5100, 30), -60, -30, 3600, 2000), HADULMIR_RECEIVED);
+    ROWS(image, 5310, "5000 1 2; 5070 3 2; 5300 1 7; 5300 2 2");
+    move_over(moved, image);
+    CHECK(same(moved, image));
+
+    /* without what was cancelled, its place is free, and what it had superseded holds again */
+    EXPECT(image, cancel(2), HADULMIR_CANCELLED);
+    move_over(moved, image);
+    LISTED(moved, "1 5000-5600 1; 3 5070-7100 6");
+    ROWS(moved, 7200, "5600 1 3; 7100 3 3");
+}
+
 /* THE HEADER */
 
 static void test_names(void)
@@ -1634,6 +1680,7 @@ int main(void)
     test_broken();
     test_changed();
     test_power();
+    test_fresh_again();
     printf("face: %u passed, %u failed\n", passed, failed);
     return failed != 0;
 }
