@@ -33,7 +33,8 @@
  *   2. The buffers of one call do not overlap.
  *   3. One call at a time uses an image and a lent buffer. Different images may be used at the same time.
  *   4. An image is whole between calls. A copy that is to outlive a loss of power is made between calls, never during one.
- *   5. Rows are given once: the next clock call starts behind them. A host that must not lose any stores them with the image.
+ *   5. Rows are given once: the next clock call starts behind them. A host that must not lose any makes the call on a copy of the image, posts
+ *      the rows, and then stores the copy, with all that it knows of the ids in it.
  *
  * HADULMIR_STACK_SIZE bytes of stack do for every call. Of the C library the archive needs memcpy, memmove and memset at most, by the names
  * that the target's convention has for them.
