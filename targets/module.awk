@@ -21,6 +21,7 @@ function form(line) {
     gsub(/%[A-Za-z0-9._]+/, "V", line)
     gsub(/\[[0-9]+ x i8\]/, "A", line)
     gsub(/ (noundef|inbounds|nuw|nsw)/, "", line)
+    sub(/^getelementptr i8, ptr V, i64 /, "getelementptr byte, ptr V, ", line)
     gsub(/i(1|8|16|32|64)/, "T", line)
     gsub(/ (-?[0-9]+|true|false)/, " V", line)
     return line
@@ -29,7 +30,7 @@ function form(line) {
 # Whether an instruction is one of those that were looked at. T is a whole number of 1 to 64 bits, V a name or a number, A an array of bytes.
 function known(f) {
     return f ~ /^load (T|ptr), ptr V, align V$/ || f ~ /^store (T|ptr) V, ptr V, align V$/ || f ~ /^alloca (T|A|ptr), align V$/ \
-        || f ~ /^getelementptr T, ptr V, T V$/ || f ~ /^(add|sub|mul|udiv|urem|and|or|xor|shl|lshr) T V, V$/ || f ~ /^(zext|trunc) T V to T$/ \
+        || f ~ /^getelementptr byte, ptr V, V$/ || f ~ /^(add|sub|mul|udiv|urem|and|or|xor|shl|lshr) T V, V$/ || f ~ /^(zext|trunc) T V to T$/ \
         || f ~ /^icmp (eq|ne|ult|ule|ugt|uge) T V, V$/ || f ~ /^br label V$/ || f ~ /^br T V, label V, label V$/ || f ~ /^ret (void|(T|ptr) V)$/ \
         || f ~ /^switch T V, label V \[$/ || f ~ /^T V, label V$/ || f == "]" || f == "unreachable" \
         || f ~ /^call (void|T) @F\(((T|ptr) V(, (T|ptr) V)*)?\)$/ || f == "call void @llvm.memmove.p0.p0.T(ptr V, ptr V, T V, T V)" \

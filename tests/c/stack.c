@@ -2,14 +2,16 @@
  * The stack that each function of the archive takes. A call runs on a stack of its own that was filled with a pattern; what it touched is
  * counted from the deepest byte that changed. It is done with two patterns, so that a byte which happens to equal one is not missed, and
  * what an empty call touches is taken off. Each function is measured on several images, the full one among them, and the most is printed.
- * Ends with 1 if a function takes more than HADULMIR_STACK_SIZE.
+ * Ends with 1 if a function takes more than HADULMIR_STACK_SIZE. With -DBARE it runs without an operating system, on ARM and RISC-V.
  */
 #define _XOPEN_SOURCE 700
 #include <inttypes.h>
 #include <stdio.h>
 #include <stdlib.h>
 #include <string.h>
+#ifndef BARE
 #include <ucontext.h>
+#endif
 
 #include "hadulmir.h"
 
@@ -60,14 +62,30 @@ static void list(void)
     returned = hadulmir_list(image, IMAGE, records, sizeof records);
 }
 
+#ifdef BARE
+/* Calls on the painted stack: the stack pointer is kept in a register that a call preserves, and put back after it. */
+static void call_there(void (*call)(void))
+{
+#if defined(__arm__)
+    __asm__ volatile("mov r4, sp\n\tmov sp, %0\n\tblx %1\n\tmov sp, r4"
+                     :
+                     : "r"(stack + STACK), "r"(call)
+                     : "r0", "r1", "r2", "r3", "r4", "r12", "lr", "cc", "memory");
+#elif defined(__riscv)
+    __asm__ volatile("mv s2, sp\n\tmv sp, %0\n\tjalr %1\n\tmv sp, s2"
+                     :
+                     : "r"(stack + STACK), "r"(call)
+                     : "ra", "t0", "t1", "t2", "t3", "t4", "t5", "t6", "a0", "a1", "a2", "a3", "a4", "a5", "a6", "a7", "s2", "memory");
+#else
+#error "no way to switch the stack of this machine"
+#endif
+}
+#else
 static ucontext_t here, there;
 
-/* Bytes of the stack that a call changed, by one pattern. */
-static size_t touched_by(void (*call)(void), uint8_t pattern)
+/* Calls on the painted stack, by the C library. */
+static void call_there(void (*call)(void))
 {
-    size_t i = 0;
-
-    memset(stack, pattern, STACK);
     if (getcontext(&there) != 0)
         abort();
     there.uc_stack.ss_sp = stack;
@@ -76,6 +94,16 @@ static size_t touched_by(void (*call)(void), uint8_t pattern)
     makecontext(&there, call, 0);
     if (swapcontext(&here, &there) != 0)
         abort();
+}
+#endif
+
+/* Bytes of the stack that a call changed, by one pattern. */
+static size_t touched_by(void (*call)(void), uint8_t pattern)
+{
+    size_t i = 0;
+
+    memset(stack, pattern, STACK);
+    call_there(call);
     while (i < STACK && stack[i] == pattern)
         i++;
     return STACK - i;

@@ -1,0 +1,133 @@
+#!/bin/sh
+# The archives for other targets: builds them all and looks at each, from the archive that a plain `rt staticlib hadulmir` wrote.
+#     tests/targets.sh PATH/libhadulmir.a
+# Nothing is run here; tests/targets/run does that. Ends with 'targets: N passed, M failed', and with 0 if M is 0.
+set -u
+
+if [ $# -ne 1 ] || [ ! -f "$1" ]; then
+    echo "usage: tests/targets.sh PATH/libhadulmir.a" >&2
+    exit 2
+fi
+plain=$(cd "$(dirname "$1")" && pwd)/$(basename "$1")
+cd "$(dirname "$0")/.." || exit 2
+
+out=${TMPDIR:-/tmp}/hadulmir-targets.$$
+mkdir "$out" || exit 2
+trap 'rm -rf "$out"' EXIT
+trap 'exit 1' HUP INT TERM
+
+built=build/targets
+functions="hadulmir_fresh hadulmir_add_program hadulmir_deliver hadulmir_cancel hadulmir_set_clock hadulmir_ask hadulmir_list"
+passed=0
+failed=0
+
+# step NAME COMMAND...: runs the command and counts; what it said is shown if it failed
+step() {
+    name=$1
+    shift
+    if "$@" >"$out/log" 2>&1; then
+        passed=$((passed + 1))
+        echo "targets: ok      $name"
+    else
+        failed=$((failed + 1))
+        echo "targets: FAILED  $name"
+        tail -n 30 "$out/log" | sed 's/^/    /'
+    fi
+}
+
+# --- building
+
+cp "$plain" "$out/plain.a" || exit 2
+step "the archives build" targets/build
+step "x86_64 is the archive that a plain rt staticlib writes" cmp "$out/plain.a" $built/x86_64/libhadulmir.a
+names=$(sed 's/#.*//' targets/list | awk 'NF { print $1 }')
+again() {
+    targets/build -r -d "$out/again" || return 1
+    for target in $names; do
+        [ "$target" = x86_64 ] || cmp $built/$target/libhadulmir.a "$out/again/$target/libhadulmir.a" || return 1
+    done
+}
+step "built again, each archive has the same bytes" again
+
+# --- a module that is not as expected is refused
+
+# refused SCRIPT: module.awk refuses the module as the sed script changes it, which it does change, and says why
+refused() {
+    sed "$1" $built/x86_64.ll >"$out/changed.ll"
+    if cmp -s "$out/changed.ll" $built/x86_64.ll; then echo "nothing was changed"; return 1; fi
+    if awk -f targets/module.awk "$out/changed.ll" >/dev/null 2>"$out/why"; then echo "it passed"; return 1; fi
+    grep '^targets/module\.awk: ' "$out/why"
+}
+damaged() { step "a module is refused: $1" refused "$2"; }
+damaged "no data layout" '/^target datalayout/d'
+damaged "another data layout" '/^target datalayout/s/"e-/"E-/'
+damaged "no triple" '/^target triple/d'
+damaged "no stack probes" 's/ "probe-stack"="inline-asm"//'
+damaged "no processor" 's/ "target-cpu"="x86-64"//'
+damaged "another attribute" 's/ "target-cpu"="x86-64"/& "frame-pointer"="all"/'
+damaged "a function less" 's/^define noundef i32 @hadulmir_ask/define internal noundef i32 @"hadulmir_ask"/'
+damaged "a pointer as a number" 's/ = icmp .*/ = ptrtoint ptr %r0 to i64/'
+damaged "a floating-point number" 's/ = add nuw i64 .*/ = fadd double %r0, %r0/'
+damaged "a number of 128 bits" 's/ = add nuw i64 / = add nuw i128 /'
+damaged "steps wider than a byte" 's/getelementptr i8, /getelementptr i64, /'
+damaged "another intrinsic" 's/@llvm\.cttz\.i64/@llvm.ctlz.i64/'
+damaged "a function of elsewhere" 's/^declare i64 @llvm\.cttz\.i64/declare i64 @helper/'
+damaged "a call through a pointer" 's/call void @"[^"]*"/call void %r0/'
+damaged "a volatile store" 's/  store i8/  store volatile i8/'
+damaged "a variable" 's/^source_filename = .*/@state = internal global i64 0/'
+damaged "assembly" 's/^source_filename = .*/module asm "nop"/'
+
+# --- each archive, by what readelf says of it, which reads the files of every machine
+
+# symbols TARGET: the global symbols, one a line: 'defined NAME' or 'needed NAME'
+symbols() {
+    readelf -sW "$built/$1/libhadulmir.a" | awk '$5 == "GLOBAL" || $5 == "WEAK" { print ($7 == "UND" ? "needed" : "defined"), $8 }' | LC_ALL=C sort
+}
+
+# bytes TARGET: what is loaded and may not be written (code and read-only tables), and what may be written
+bytes() {
+    readelf -SW "$built/$1/libhadulmir.a" | awk '
+        function number(hex,   n, i) { for (i = 1; i <= length(hex); i++) n = 16 * n + index("0123456789abcdef", substr(hex, i, 1)) - 1; return n }
+        sub(/^ *\[ *[0-9]+\] /, "") && $7 ~ /A/ { if ($7 ~ /W/) data += number($5); else code += number($5) }
+        END { print code + 0, data + 0 }'
+}
+
+# row TARGET COLUMN: what the table of docs/HOST.md has there
+row() {
+    awk -F ' *[|] *' -v target="$1" -v column="$2" '/^## / { here = /^## Other targets$/ } here && $2 == target && NF == 6 { print $(column + 1) }' docs/HOST.md
+}
+
+exports() {
+    symbols "$1" | sed -n 's/^defined //p' >"$out/exported"
+    printf '%s\n' $functions | LC_ALL=C sort | diff - "$out/exported"
+}
+
+needs() {
+    symbols "$1" | sed -n 's/^needed //p' | paste -s -d , | sed 's/,/, /g' >"$out/needed"
+    row "$1" 4 | tr -d '`' | diff - "$out/needed"
+}
+
+no_data() {
+    bytes "$1" | { read -r code data; echo "$data bytes of data"; [ "$data" -eq 0 ] && [ "$code" -gt 0 ]; }
+}
+
+code_size() {
+    bytes "$1" | { read -r code data; echo "the code takes $code, docs/HOST.md says $(row "$1" 3)"; [ "$(row "$1" 3 | tr -d ,)" = "$code" ]; }
+}
+
+for target in $names; do
+    step "$target has the seven functions and no other" exports "$target"
+    step "$target needs what docs/HOST.md says" needs "$target"
+    step "$target has no data" no_data "$target"
+    step "$target has the code size of docs/HOST.md" code_size "$target"
+done
+
+# every row of the table is a target, in the list's order
+rows() {
+    awk -F ' *[|] *' '/^## / { here = /^## Other targets$/ } here && NF == 6 && $2 !~ /^(Target|-+)$/ { print $2 }' docs/HOST.md >"$out/rows"
+    printf '%s\n' $names | diff - "$out/rows"
+}
+step "docs/HOST.md has a row for each target" rows
+
+echo "targets: $passed passed, $failed failed"
+[ "$failed" -eq 0 ]

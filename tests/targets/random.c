@@ -1,0 +1,427 @@
+/*
+ * Random calls through the C face, the same on every machine. After each call the returned number and every byte of the image and of the lent
+ * buffer, with guard bytes on both sides, go into one digest; two machines on which the part does the same print the same digest. The calls
+ * are mostly near what is accepted, so that events start, overlap, supersede each other, end and are cancelled. The counts at the end say what
+ * came; it ends with 1 if an answer or a refusal never came.
+ */
+#include <stdint.h>
+#include <stdio.h>
+#include <string.h>
+
+#include "hadulmir.h"
+
+#define CALLS 60000
+#define IMAGE HADULMIR_IMAGE_SIZE
+#define LENT HADULMIR_RECORDS_SIZE
+#define GUARD 24
+#define IDS 64
+
+/* NUMBERS AND DIGEST. No expression draws twice without a sequence point between, as compilers differ in the order of operands. */
+
+static uint32_t next(void)
+{
+    static uint32_t state = 2030;
+
+    state ^= state << 13;
+    state ^= state >> 17;
+    state ^= state << 5;
+    return state;
+}
+
+static uint32_t below(uint32_t limit)
+{
+    return (next() >> 4) % limit;
+}
+
+/* True once in `times`. */
+static int once_in(uint32_t times)
+{
+    return below(times) == 0;
+}
+
+/* FNV-1a, 64 bits. */
+static uint64_t digest = UINT64_C(0xCBF29CE484222325);
+
+static void take_in(const uint8_t *bytes, size_t size)
+{
+    size_t i;
+
+    for (i = 0; i < size; i++)
+        digest = (digest ^ bytes[i]) * UINT64_C(0x100000001B3);
+}
+
+/* BUFFERS. Each begins at any remainder by 8, whatever the compiler does with the space. */
+
+static uint64_t image_space[(GUARD + 8 + IMAGE + GUARD) / 8 + 1], lent_space[(GUARD + 8 + LENT + GUARD) / 8 + 1];
+static uint8_t *const image_block = (uint8_t *)image_space, *const lent_block = (uint8_t *)lent_space;
+static uint8_t *image = (uint8_t *)image_space + GUARD;
+
+static void move_image(void)
+{
+    uint8_t *to = image_block + GUARD + below(8);
+
+    memmove(to, image, IMAGE);
+    memset(image_block, 0xA5, (size_t)(to - image_block));
+    memset(to + IMAGE, 0xA5, (size_t)(image_block + sizeof image_space - (to + IMAGE)));
+    image = to;
+}
+
+/* CALLS, all made through `make`, which spoils now and then what the call is given, and counts. */
+
+enum kind { FRESH, ADD, DELIVER, CANCEL, CLOCK, ASK, LIST, KINDS };
+
+struct event {
+    uint64_t id;
+    uint8_t program;
+    uint32_t controls, created, start, duration;
+    int32_t randomize_start, randomize_duration, start_draw, duration_draw;
+};
+
+/* What is given to a call besides image and buffer: `number` is a program, a control, an id or a reading. */
+struct call {
+    enum kind kind;
+    uint64_t number;
+    uint8_t primacy;
+    uint32_t defaults;
+    struct event event;
+    uint64_t room;
+};
+
+static uint32_t calls, answered[KINDS], refused[15], rows_of[8], cancelled, held_by_event, by_default, by_nobody, unchanged;
+
+static int32_t act(const struct call *c, uint64_t len, uint8_t *lent)
+{
+    const struct event *e = &c->event;
+
+    switch (c->kind) {
+    case FRESH:
+        return hadulmir_fresh(image, len);
+    case ADD:
+        return hadulmir_add_program(image, len, (uint8_t)c->number, c->primacy, c->defaults);
+    case DELIVER:
+        return hadulmir_deliver(image, len, e->id, e->program, e->controls, e->created, e->start, e->duration,
+                                hadulmir_signed(e->randomize_start), hadulmir_signed(e->randomize_duration),
+                                hadulmir_signed(e->start_draw), hadulmir_signed(e->duration_draw));
+    case CANCEL:
+        return hadulmir_cancel(image, len, c->number);
+    case CLOCK:
+        return hadulmir_set_clock(image, len, c->number, lent, c->room);
+    case ASK:
+        return hadulmir_ask(image, len, (uint8_t)c->number, lent, c->room);
+    default:
+        return hadulmir_list(image, len, lent, c->room);
+    }
+}
+
+static void count(const struct call *c, int32_t returned, const uint8_t *lent)
+{
+    int32_t i;
+
+    calls++;
+    if (returned < 0) {
+        if (returned >= -14)
+            refused[-returned]++;
+        return;
+    }
+    answered[c->kind]++;
+    cancelled += c->kind == CANCEL && returned == HADULMIR_CANCELLED;
+    unchanged += (c->kind == DELIVER || c->kind == CANCEL) && returned == 0;
+    if (c->kind == ASK) {
+        by_nobody += returned == HADULMIR_NOBODY;
+        held_by_event += returned == HADULMIR_EVENT;
+        by_default += returned >= HADULMIR_DEFAULT;
+    }
+    for (i = 0; c->kind == CLOCK && i < returned; i++)
+        rows_of[hadulmir_row_at(lent, (size_t)i).code & 7]++;
+}
+
+/* Changes a bit of the image, mostly where something stands. */
+static void spoil(void)
+{
+    size_t used = 57 + (size_t)HADULMIR_RECORD_SIZE * (image[8] % 49);
+    size_t at = below((uint32_t)(once_in(4) ? IMAGE : used));
+
+    image[at] ^= (uint8_t)(1u << below(8));
+}
+
+static int32_t make(const struct call *c)
+{
+    static const uint16_t other_lengths[] = {0, 1, IMAGE - 1, IMAGE + 1};
+    static uint8_t before[IMAGE];
+    uint64_t len = once_in(c->kind == FRESH ? 4 : 100) ? other_lengths[below(4)] : IMAGE;
+    int spoilt = once_in(50);
+    uint8_t *lent = lent_block + GUARD + below(8), number[4];
+    int32_t returned;
+    size_t i;
+
+    for (i = 0; i < sizeof lent_space; i++)
+        lent_block[i] = (uint8_t)(i * 7 + 0x5A);
+    if (spoilt) {
+        memcpy(before, image, IMAGE);
+        spoil();
+    }
+    returned = act(c, len, lent);
+    count(c, returned, lent);
+    for (i = 0; i < 4; i++)
+        number[i] = (uint8_t)((uint32_t)returned >> (8 * i));
+    take_in(number, 4);
+    take_in(image_block, sizeof image_space);
+    if (c->kind == CLOCK || c->kind == ASK || c->kind == LIST)
+        take_in(lent_block, (size_t)(lent - lent_block) + (size_t)c->room + GUARD);
+    if (spoilt && (returned == HADULMIR_BAD_IMAGE || once_in(2)))
+        memcpy(image, before, IMAGE);
+    return returned;
+}
+
+static struct call blank(enum kind kind)
+{
+    struct call c;
+
+    memset(&c, 0, sizeof c);
+    c.kind = kind;
+    return c;
+}
+
+/* WHAT THE CALLS ARE GIVEN */
+
+/* What the events of a run of calls are like: near the clock; long, so that 48 are held; across 2^32 seconds; at the last second there can be. */
+enum times { NEAR, LONG, ACROSS, LAST, TIMES };
+
+static enum times times;
+static struct event events[IDS]; /* the last one that was delivered under each id */
+
+/* Small ids, ids that differ in their upper half alone, and ids at the upper end. */
+static uint64_t id_of(uint32_t k)
+{
+    return k % 3 == 0 ? k : k % 3 == 1 ? (uint64_t)k << 32 : ~(uint64_t)k;
+}
+
+/* A randomisation, mostly none, and a draw that mostly fits it. */
+static void randomise(int32_t *randomisation, int32_t *draw)
+{
+    *randomisation = once_in(3) ? (int32_t)below(121) - 60 : 0;
+    if (once_in(20))
+        *randomisation = (int32_t)below(7401) - 3700;
+    *draw = *randomisation < 0 ? -(int32_t)below((uint32_t)-*randomisation + 1) : (int32_t)below((uint32_t)*randomisation + 1);
+    if (once_in(60))
+        *draw = (int32_t)below(40000) - 20000;
+}
+
+static struct event new_event(uint32_t k)
+{
+    uint64_t clock = hadulmir_clock_of(image), start = clock + below(150);
+    struct event e;
+
+    e.id = id_of(k);
+    e.program = (uint8_t)(once_in(100) ? 8 + below(248) : below(20) == 0 ? 7 : below(4));
+    e.controls = 1u << below(6);
+    if (once_in(2))
+        e.controls |= 1u << below(32);
+    if (once_in(10))
+        e.controls |= next();
+    if (once_in(60))
+        e.controls = 0;
+    e.created = below(40);
+    e.duration = times == LONG ? 5000 + below(2000) : once_in(100) ? 0 : 1 + below(150);
+    if (times == LAST) {
+        start = UINT32_MAX - below(300);
+        e.duration = UINT32_MAX - below(300);
+    }
+    start = start > 60 ? start - 60 : 0;
+    e.start = start > UINT32_MAX ? UINT32_MAX - below(100) : (uint32_t)start;
+    randomise(&e.randomize_start, &e.start_draw);
+    randomise(&e.randomize_duration, &e.duration_draw);
+    return e;
+}
+
+/* A new event, the last one under its id once more, or that with one field changed. */
+static void deliver(void)
+{
+    struct call c = blank(DELIVER);
+    uint32_t k = below(IDS);
+
+    if (events[k].id != id_of(k) || below(4) != 0)
+        events[k] = new_event(k);
+    c.event = events[k];
+    switch (below(30)) {
+    case 0:
+        c.event.controls ^= 1;
+        break;
+    case 1:
+        c.event.created++;
+        break;
+    case 2:
+        c.event.duration++;
+        break;
+    case 3:
+        c.event.randomize_duration = c.event.duration_draw;
+        break;
+    }
+    make(&c);
+}
+
+static void add_program(uint8_t number)
+{
+    static const uint8_t primacies[] = {0, 1, 2, 65, 100, 191, 3, 64, 192, 255};
+    struct call c = blank(ADD);
+
+    c.number = once_in(30) ? 8 + below(248) : number;
+    c.primacy = primacies[below(once_in(6) ? 10 : 6)];
+    c.defaults = next();
+    c.defaults &= next();
+    make(&c);
+}
+
+static void set_clock(uint64_t reading, uint64_t room)
+{
+    struct call c = blank(CLOCK);
+
+    c.number = reading;
+    c.room = room;
+    make(&c);
+}
+
+static void pass_time(void)
+{
+    static const uint16_t rooms[] = {0, 1, 16, 17, 33, 34, 51, 100};
+    uint64_t clock = hadulmir_clock_of(image), reading = clock + (once_in(15) ? below(400) : below(12));
+
+    if (once_in(40))
+        reading = once_in(2) ? clock - 1 - below(10) : HADULMIR_LAST_CLOCK + 1 + below(10);
+    set_clock(reading, once_in(5) ? rooms[below(8)] : HADULMIR_ROWS_SIZE);
+}
+
+static void cancel(void)
+{
+    struct call c = blank(CANCEL);
+    uint32_t held = image[8] % 49;
+
+    c.number = held > 0 && below(5) != 0 ? hadulmir_number_at(image + 57 + HADULMIR_RECORD_SIZE * below(held), 8) : id_of(below(IDS));
+    make(&c);
+}
+
+static void ask(void)
+{
+    struct call c = blank(ASK);
+
+    c.number = once_in(20) ? 32 + below(224) : once_in(2) ? below(6) : below(32);
+    c.room = once_in(3) ? below(12) : HADULMIR_ID_SIZE;
+    make(&c);
+}
+
+static void list(void)
+{
+    struct call c = blank(LIST);
+    uint32_t need = (uint32_t)HADULMIR_RECORD_SIZE * (image[8] % 49);
+
+    c.room = once_in(2) ? HADULMIR_RECORDS_SIZE : once_in(2) ? need : need > 0 && once_in(2) ? need - 1 : below(LENT + 1);
+    make(&c);
+}
+
+/* RUNS OF CALLS */
+
+static void fresh(void)
+{
+    struct call c = blank(FRESH);
+
+    while (make(&c) < 0)
+        continue;
+    memset(events, 0xFF, sizeof events);
+}
+
+/* A fresh image with some programs, at a clock where the events of this run will be. */
+static void begin(void)
+{
+    static const uint64_t clocks[TIMES] = {3500, 3700, UINT64_C(4294967000), UINT64_C(8589934000)};
+    uint8_t p;
+
+    move_image();
+    fresh();
+    times = (enum times)below(TIMES);
+    for (p = 0; p < 4; p++)
+        add_program(p);
+    set_clock(clocks[times] + below(200), HADULMIR_ROWS_SIZE);
+}
+
+/* 48 events, each over before the next begins, and one reading that gives the start and the end of each: as many rows as there can be. */
+static void many_rows(void)
+{
+    struct call c = blank(DELIVER);
+    uint32_t i;
+
+    fresh();
+    add_program(0);
+    set_clock(4000, 0);
+    for (i = 0; i < HADULMIR_EVENTS_AT_MOST; i++) {
+        memset(&c.event, 0, sizeof c.event);
+        c.event.id = id_of(i);
+        c.event.controls = 1u << below(32);
+        c.event.start = 5000 + 20 * i;
+        c.event.duration = 1 + below(20);
+        make(&c);
+    }
+    set_clock(6000, HADULMIR_ROWS_SIZE);
+}
+
+static void one_call(void)
+{
+    uint32_t which = below(100);
+
+    if (which < 45)
+        deliver();
+    else if (which < 65)
+        pass_time();
+    else if (which < 75)
+        cancel();
+    else if (which < 88)
+        ask();
+    else if (which < 95)
+        list();
+    else
+        add_program((uint8_t)below(5));
+}
+
+/* WHAT CAME */
+
+static int none;
+
+static void say(const char *what, uint32_t times_seen)
+{
+    printf("%s %lu\n", what, (unsigned long)times_seen);
+    none |= times_seen == 0;
+}
+
+int main(void)
+{
+    static const char *const names[KINDS] = {"fresh", "add_program", "deliver", "cancel", "set_clock", "ask", "list"};
+    char what[40];
+    uint32_t i;
+
+    while (calls < CALLS) {
+        begin();
+        for (i = 0; i < 300 && calls < CALLS; i++)
+            one_call();
+        if (once_in(4))
+            many_rows();
+    }
+    for (i = 0; i < KINDS; i++) {
+        snprintf(what, sizeof what, "%s answered", names[i]);
+        say(what, answered[i]);
+    }
+    for (i = 2; i <= 14; i++) {
+        snprintf(what, sizeof what, "refusal %lu", (unsigned long)i);
+        say(what, refused[i]);
+    }
+    say("rows with 2", rows_of[HADULMIR_STARTED]);
+    say("rows with 3", rows_of[HADULMIR_COMPLETED]);
+    say("rows with 7", rows_of[HADULMIR_SUPERSEDED]);
+    say("cancelled with 6", cancelled);
+    say("known already, 0", unchanged);
+    say("held by an event", held_by_event);
+    say("by a default", by_default);
+    say("by nobody", by_nobody);
+    if (none)
+        printf("random: something never came\n");
+    printf("random: %lu calls, digest %08lx%08lx\n", (unsigned long)calls, (unsigned long)(digest >> 32), (unsigned long)(digest & 0xFFFFFFFFu));
+    return none;
+}
