@@ -1,13 +1,15 @@
 # make run    builds the program `schedule` and runs it on the recorded day
 # make host   builds the archive for C hosts and the example host, and runs it
 # make install PREFIX=/usr/local [TARGET=cortex-m4] [DESTDIR=/stage]   header, archive, pkg-config file and CMake package; a TARGET is one of `make targets`
+# make targets   builds the archives of the other targets (targets/list) into build/targets
+# make targets-test   runs them under qemu; needs cross compilers, some minutes; not part of the gate
 # make bench     the program, and each C call, beside the independent scheduler, as ratios
 # make picture   draws the recorded day and the bench marks T10 and T11
 # make picture LIST=my.frames OUT=my.svg [ARGUMENTS="--from 5000 --to 6000"]   draws another list
 # make fuzz   lines and images by a coverage-guided fuzzer beside the independent scheduler, ten minutes each; not part of the gate
 # make mutants   makes the definitions wrong, one token at a time, and tells what notices; about twenty minutes; not part of the gate
 # make test   proves everything, tries every must-fail edit, runs the tests: the gate
-.PHONY: run host install bench fuzz mutants picture test clean
+.PHONY: run host targets targets-test install bench fuzz mutants picture test clean
 
 run: build/schedule.log
 	@target/bin/schedule < examples/day.frames
@@ -28,6 +30,13 @@ build/archive.log:
 	@mkdir -p build
 	@echo "proving and building libhadulmir.a; on a new machine this takes some minutes" >&2
 	@rt staticlib hadulmir > $@ 2>&1 || { tail -n 20 $@ >&2; exit 1; }
+
+targets:
+	@echo "proving, and building the archives of targets/list; on a new machine this takes some minutes" >&2
+	@targets/build
+
+targets-test: targets
+	@tests/targets/run
 
 PREFIX ?= /usr/local
 

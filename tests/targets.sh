@@ -11,29 +11,11 @@ fi
 plain=$(cd "$(dirname "$1")" && pwd)/$(basename "$1")
 cd "$(dirname "$0")/.." || exit 2
 
-out=${TMPDIR:-/tmp}/hadulmir-targets.$$
-mkdir "$out" || exit 2
-trap 'rm -rf "$out"' EXIT
-trap 'exit 1' HUP INT TERM
+part=targets
+. tests/steps.sh
 
 built=build/targets
 functions="hadulmir_fresh hadulmir_add_program hadulmir_deliver hadulmir_cancel hadulmir_set_clock hadulmir_ask hadulmir_list"
-passed=0
-failed=0
-
-# step NAME COMMAND...: runs the command and counts; what it said is shown if it failed
-step() {
-    name=$1
-    shift
-    if "$@" >"$out/log" 2>&1; then
-        passed=$((passed + 1))
-        echo "targets: ok      $name"
-    else
-        failed=$((failed + 1))
-        echo "targets: FAILED  $name"
-        tail -n 30 "$out/log" | sed 's/^/    /'
-    fi
-}
 
 # --- building
 
@@ -92,10 +74,11 @@ bytes() {
         END { print code + 0, data + 0 }'
 }
 
-# row TARGET COLUMN: what the table of docs/HOST.md has there
-row() {
-    awk -F ' *[|] *' -v target="$1" -v column="$2" '/^## / { here = /^## Other targets$/ } here && $2 == target && NF == 6 { print $(column + 1) }' docs/HOST.md
-}
+# table: the rows of the table of targets in docs/HOST.md, without its head
+table() { sed -n '/^## Other targets$/,/^## /{ /^| Target |/,/^$/p; }' docs/HOST.md | sed '1,2d;$d'; }
+
+# row TARGET COLUMN: what the table has there
+row() { table | awk -F ' *[|] *' -v target="$1" -v column="$2" '$2 == target { print $(column + 1) }'; }
 
 exports() {
     symbols "$1" | sed -n 's/^defined //p' >"$out/exported"
@@ -122,12 +105,10 @@ for target in $names; do
     step "$target has the code size of docs/HOST.md" code_size "$target"
 done
 
-# every row of the table is a target, in the list's order
 rows() {
-    awk -F ' *[|] *' '/^## / { here = /^## Other targets$/ } here && NF == 6 && $2 !~ /^(Target|-+)$/ { print $2 }' docs/HOST.md >"$out/rows"
+    table | awk -F ' *[|] *' '{ print $2 }' >"$out/rows"
     printf '%s\n' $names | diff - "$out/rows"
 }
-step "docs/HOST.md has a row for each target" rows
+step "docs/HOST.md has a row for each target, and no other" rows
 
-echo "targets: $passed passed, $failed failed"
-[ "$failed" -eq 0 ]
+closing

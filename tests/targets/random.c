@@ -138,7 +138,7 @@ static void count(const struct call *c, int32_t returned, const uint8_t *lent)
 /* Changes a bit of the image, mostly where something stands. */
 static void spoil(void)
 {
-    size_t used = 57 + (size_t)HADULMIR_RECORD_SIZE * (image[8] % 49);
+    size_t used = HADULMIR_EVENTS_AT + (size_t)HADULMIR_RECORD_SIZE * (image[HADULMIR_COUNT_AT] % (HADULMIR_EVENTS_AT_MOST + 1));
     size_t at = below((uint32_t)(once_in(4) ? IMAGE : used));
 
     image[at] ^= (uint8_t)(1u << below(8));
@@ -287,16 +287,16 @@ static void pass_time(void)
     uint64_t clock = hadulmir_clock_of(image), reading = clock + (once_in(15) ? below(400) : below(12));
 
     if (once_in(40))
-        reading = once_in(2) ? clock - 1 - below(10) : HADULMIR_LAST_CLOCK + 1 + below(10);
+        reading = once_in(2) ? clock - 1 - below(10) : HADULMIR_CLOCK_AT_MOST + 1 + below(10);
     set_clock(reading, once_in(5) ? rooms[below(8)] : HADULMIR_ROWS_SIZE);
 }
 
 static void cancel(void)
 {
     struct call c = blank(CANCEL);
-    uint32_t held = image[8] % 49;
+    uint32_t held = image[HADULMIR_COUNT_AT] % (HADULMIR_EVENTS_AT_MOST + 1);
 
-    c.number = held > 0 && below(5) != 0 ? hadulmir_number_at(image + 57 + HADULMIR_RECORD_SIZE * below(held), 8) : id_of(below(IDS));
+    c.number = held > 0 && below(5) != 0 ? hadulmir_number_at(image + HADULMIR_EVENTS_AT + HADULMIR_RECORD_SIZE * below(held), 8) : id_of(below(IDS));
     make(&c);
 }
 
@@ -312,7 +312,7 @@ static void ask(void)
 static void list(void)
 {
     struct call c = blank(LIST);
-    uint32_t need = (uint32_t)HADULMIR_RECORD_SIZE * (image[8] % 49);
+    uint32_t need = (uint32_t)HADULMIR_RECORD_SIZE * (image[HADULMIR_COUNT_AT] % (HADULMIR_EVENTS_AT_MOST + 1));
 
     c.room = once_in(2) ? HADULMIR_RECORDS_SIZE : once_in(2) ? need : need > 0 && once_in(2) ? need - 1 : below(LENT + 1);
     make(&c);

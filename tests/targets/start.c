@@ -20,6 +20,28 @@ void _fini(void)
 {
 }
 
+#ifdef TRAP_UNALIGNED
+/* Any word at an address that is no multiple of its size is a fault. newlib copies by such words, so the copies are by bytes here. */
+void *memmove(void *to, const void *from, size_t size)
+{
+    volatile uint8_t *t = to;
+    const uint8_t *f = from;
+    size_t i;
+
+    for (i = 0; i < size; i++) {
+        size_t k = to < from ? i : size - 1 - i;
+
+        t[k] = f[k];
+    }
+    return to;
+}
+
+void *memcpy(void *restrict to, const void *restrict from, size_t size)
+{
+    return memmove(to, from, size);
+}
+#endif
+
 static void start(void)
 {
     uint32_t *to, *from = &data_from;
@@ -28,6 +50,9 @@ static void start(void)
     /* The host is compiled for the floating-point unit: on. A soft-float host leaves it off, so that the part would fault if it used it. */
     *(volatile uint32_t *)0xE000ED88 |= 0xFu << 20;
     __asm__ volatile("dsb\n\tisb");
+#endif
+#ifdef TRAP_UNALIGNED
+    *(volatile uint32_t *)0xE000ED14 |= 1u << 3;
 #endif
     for (to = &data_start; to < &data_end;)
         *to++ = *from++;
