@@ -1,5 +1,5 @@
 # Reads the LLVM module of the proved crate as text, and prints it without what belongs to x86-64: the data layout, the triple, the processor
-# and the stack probes. The results of the exported functions get `signext`, since a C caller may rely on it (on rv64gc it does). Parameters of
+# and the stack probes. The results of the exported functions get `signext`: the C convention of rv64gc lets a caller rely on it. Parameters of
 # internal functions lose `zeroext`: their callers do not promise it, and without it the function takes nothing for granted.
 #
 # Every line has to be of a form that was looked at and means the same on a machine with 32-bit or 64-bit pointers, the least significant
