@@ -12,6 +12,12 @@ prefix=$out/prefix
 step "make install" make --silent install PREFIX="$prefix"
 step "make install for a stage" make --silent install PREFIX=/opt/hadulmir DESTDIR="$out/stage"
 
+# no_archive: nothing is installed where there is no archive to install
+no_archive() {
+    ! packaging/install build/targets/none/libhadulmir.a "$out/none" && grep -q 'no archive' "$out/log" && [ ! -e "$out/none" ]
+}
+step "without an archive nothing is installed" no_archive
+
 # The example stands alone, so that no file of the repository is found by chance.
 mkdir "$out/host"
 cp examples/host.c "$out/host/"
