@@ -16,7 +16,6 @@ part=c
 
 warn="-Wall -Wextra -Werror -pedantic -Iinclude"
 c99="gcc $warn -std=c99"
-functions="hadulmir_fresh hadulmir_add_program hadulmir_deliver hadulmir_cancel hadulmir_set_clock hadulmir_ask hadulmir_list"
 
 # passes WORD COMMAND...: the command ends with 0, and its last line is 'WORD: N passed, 0 failed'
 passes() {
@@ -53,7 +52,7 @@ no_data() {
     size -t "$archive" | tee "$out/size" | tail -n 1 | awk '{ print; exit !($2 == 0 && $3 == 0) }'
 }
 
-step "the archive has the seven functions and no other" exports
+step "the archive has the functions of the header and no other" exports
 step "it needs nothing but memcpy and memset" needs_little
 step "it has no writable data" no_data
 

@@ -6,6 +6,9 @@ trap 'exit 1' HUP INT TERM
 passed=0
 failed=0
 
+# The functions of the archive: those that the header declares.
+functions=$(sed -n 's/^int32_t \(hadulmir_[a-z_]*\)(.*/\1/p' include/hadulmir.h)
+
 # step NAME COMMAND...: runs the command and counts; what it said is shown if it failed
 step() {
     name=$1

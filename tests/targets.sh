@@ -15,7 +15,6 @@ part=targets
 . tests/steps.sh
 
 built=build/targets
-functions="hadulmir_fresh hadulmir_add_program hadulmir_deliver hadulmir_cancel hadulmir_set_clock hadulmir_ask hadulmir_list"
 
 # --- building
 
@@ -99,7 +98,7 @@ code_size() {
 }
 
 for target in $names; do
-    step "$target has the seven functions and no other" exports "$target"
+    step "$target has the functions of the header and no other" exports "$target"
     step "$target needs what docs/HOST.md says" needs "$target"
     step "$target has no data" no_data "$target"
     step "$target has the code size of docs/HOST.md" code_size "$target"
