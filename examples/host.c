@@ -12,7 +12,10 @@
 
 #define KNOWN_AT_MOST 64
 
-/* What the part does not keep of an event: its mRID, and the draws that were made for it. The event's id is its place in the table. */
+/*
+ * What the part does not keep of an event: its mRID, and the draws that were made for it. The event's id is its place in the table. A host that
+ * runs for long uses a place again once its event is listed no more and nothing is to be posted for it.
+ */
 struct known {
     char mrid[33];
     int32_t start_draw, duration_draw;
@@ -85,8 +88,10 @@ static void deliver(const char *mrid, uint32_t created, uint32_t start, uint32_t
     uint8_t code;
 
     next = now;
-    if (!know(&event, mrid))
+    if (!know(&event, mrid)) {
+        printf("event %s left out: the table is full\n", mrid);
         return;
+    }
     returned = hadulmir_deliver_event(next.image, sizeof next.image, &event);
     if (hadulmir_is_refusal(returned))
         refused("event", returned);

@@ -104,6 +104,14 @@ for target in $names; do
     step "$target has the code size of docs/HOST.md" code_size "$target"
 done
 
+# another_core: words for a Cortex-M0+ give an archive that needs, besides what every one may need, the routines that docs/HOST.md names
+another_core() {
+    targets/build -r -w '--target=thumbv6m-none-eabi -mcpu=cortex-m0plus -mno-unaligned-access' -d "$out/other" cortex-m4 || return 1
+    (built=$out/other && symbols cortex-m4) | sed -n 's/^needed //p' | grep -v -x -e memcpy -e memmove -e memset >"$out/needed"
+    grep -o '`__aeabi_[a-z]*`' docs/HOST.md | tr -d '`' | LC_ALL=C sort | diff - "$out/needed"
+}
+step "a Cortex-M0+ needs the routines of docs/HOST.md" another_core
+
 rows() {
     table | awk -F ' *[|] *' '{ print $2 }' >"$out/rows"
     printf '%s\n' $names | diff - "$out/rows"
