@@ -1,11 +1,9 @@
 /*
- * A small host: two events that overlap, a clock that moves in steps, a loss of power, refusals. Program and events are those of document
- * 01's worked example, with its ids as mRIDs, so the lines "time mRID code" are those of its output, in its order; only the line of the late
- * event 3 is added.
+ * A small host: two events that overlap, a randomised start, a clock that moves in steps, a loss of power, refusals. The lines "time mRID code"
+ * are those of document 01's worked example, in its order, its ids being mRIDs; only those of event 3 and of the late event 4 are added.
  */
 #include <inttypes.h>
 #include <stdio.h>
-#include <stdlib.h>
 #include <string.h>
 
 #include "hadulmir.h"
@@ -54,9 +52,14 @@ static void refused(const char *what, int32_t returned)
 /* At random between 0 and the bound, both included. Beyond an hour the delivery is refused, whatever the draw. */
 static int32_t draw(int32_t bound)
 {
+    static uint32_t state = 2030; /* in place of the device's source of random numbers, so that the example always prints the same */
+    int32_t drawn;
+
     if (bound < -3600 || bound > 3600)
         return 0;
-    return bound < 0 ? -(rand() % (1 - bound)) : rand() % (1 + bound);
+    state = state * 1664525u + 1013904223u;
+    drawn = (int32_t)(state >> 16) % (bound < 0 ? 1 - bound : 1 + bound);
+    return bound < 0 ? -drawn : drawn;
 }
 
 /* Gives the event its id and its draws: those that it has, or new ones. Whether there is room for it. */
@@ -81,9 +84,10 @@ static int know(struct hadulmir_event *event, const char *mrid)
 }
 
 /* An event as it was received, of program 0 for control 0. Accepted, its answer is the code to post, or 0 for none. */
-static void deliver(const char *mrid, uint32_t created, uint32_t start, uint32_t duration)
+static void deliver(const char *mrid, uint32_t created, uint32_t start, uint32_t duration, int32_t randomize_start)
 {
-    struct hadulmir_event event = {.program = 0, .controls = 0x1, .created = created, .start = start, .duration = duration};
+    struct hadulmir_event event = {.program = 0, .controls = 0x1, .created = created, .start = start, .duration = duration,
+                                   .randomize_start = randomize_start};
     int32_t returned;
     uint8_t code;
 
@@ -137,6 +141,7 @@ static void ask(uint8_t control)
         printf("%u default %" PRId32 "\n", (unsigned)control, asked - HADULMIR_DEFAULT);
 }
 
+/* What is held, and for the user when each event might begin at the earliest. */
 static void list(void)
 {
     static uint8_t records[HADULMIR_RECORDS_SIZE];
@@ -150,8 +155,9 @@ static void list(void)
     printf("%" PRId32 " held at %" PRIu64 "\n", count, hadulmir_clock_of(now.image));
     for (i = 0; i < count; i++) {
         struct hadulmir_record record = hadulmir_record_at(records, (size_t)i);
-        printf("  event %s from %" PRIu64 " to %" PRIu64 " holds %08" PRIX32 "%s\n", now.known[record.event.id].mrid,
-               record.effective_start, hadulmir_effective_end(&record.event), record.held, record.cancelled ? ", cancelled" : "");
+        printf("  event %s from %" PRIu64 " to %" PRIu64 ", at the earliest %" PRIu64 ", holds %08" PRIX32 "%s\n",
+               now.known[record.entry.event.id].mrid, record.entry.effective_start, hadulmir_effective_end(&record.entry.event),
+               record.earliest_start, record.entry.held, record.entry.cancelled ? ", cancelled" : "");
     }
 }
 
@@ -162,8 +168,9 @@ int main(void)
         return 1;
     store();
     set_clock(4000);
-    deliver("1", 100, 5000, 600);
-    deliver("2", 200, 5300, 60);
+    deliver("1", 100, 5000, 600, 0);
+    deliver("2", 200, 5300, 60, 0);
+    deliver("3", 300, 7000, 600, -300);
     ask(0);
     set_clock(4999);
     set_clock(5000);
@@ -176,9 +183,10 @@ int main(void)
     printf("power back, clock %" PRIu64 "\n", hadulmir_clock_of(now.image));
     list();
 
-    /* The server sends everything again, and an event that is long over: nothing for what is held, code 254 for the late one. */
-    deliver("1", 100, 5000, 600);
-    deliver("3", 50, 3600, 600);
+    /* The server sends events again, and one that is long over: nothing for those held, whose draws were kept, code 254 for the late one. */
+    deliver("1", 100, 5000, 600, 0);
+    deliver("3", 300, 7000, 600, -300);
+    deliver("4", 50, 3600, 600, 0);
 
     set_clock(5300);
     ask(0);

@@ -66,9 +66,9 @@ extern "C" {
 typedef char hadulmir_fits_the_target[CHAR_BIT == 8 && sizeof(int) == 4 && (sizeof(void *) == 4 || sizeof(void *) == 8) ? 1 : -1];
 
 /** This version as a number: 10,000 for the first part of its name, 100 for the second, 1 for the third. */
-#define HADULMIR_VERSION 10000
+#define HADULMIR_VERSION 20000
 /** This version as text. */
-#define HADULMIR_VERSION_TEXT "1.0.0"
+#define HADULMIR_VERSION_TEXT "2.0.0"
 
 /** The layout of the image. Versions with the same number here take up each other's images: a host stores it with the image. */
 #define HADULMIR_IMAGE_LAYOUT 1
@@ -94,8 +94,11 @@ typedef char hadulmir_fits_the_target[CHAR_BIT == 8 && sizeof(int) == 4 && (size
 /** Bytes of a row buffer that is long enough for every clock call. */
 #define HADULMIR_ROWS_SIZE (HADULMIR_ROWS_AT_MOST * HADULMIR_ROW_SIZE)
 
-/** Bytes of a listed record, and of an event in an image. */
-#define HADULMIR_RECORD_SIZE 46
+/** Bytes of an event in an image. */
+#define HADULMIR_ENTRY_SIZE 46
+
+/** Bytes of a listed record: the event as it stands in the image, then its earliest start. */
+#define HADULMIR_RECORD_SIZE (HADULMIR_ENTRY_SIZE + 8)
 
 /** Events that a schedule holds at most. */
 #define HADULMIR_EVENTS_AT_MOST 48
@@ -181,9 +184,9 @@ enum hadulmir_asked {
  *        0   clock                                8 bytes
  *        8   count of held events                 1
  *        9   program 0 to program 7               6 each:  added (0 or 1) 1, primacy 1, defaults 4
- *       57   event entries, 48 of them           46 each:  as a record below, the held ones first
+ *       57   event entries, 48 of them           46 each:  as below, the held ones first
  *
- * A record, which is also an event entry:
+ * An event entry:
  *
  *        0   id                                   8
  *        8   program number                       1
@@ -199,6 +202,11 @@ enum hadulmir_asked {
  *       41   held mask                            4
  *       45   cancelled (0 or 1)                   1
  *
+ * A record, which a listing gives and no image has:
+ *
+ *        0   event entry, as in the image        46
+ *       46   earliest start                       8
+ *
  * A row:
  *
  *        0   time                                 8
@@ -207,6 +215,9 @@ enum hadulmir_asked {
  *
  * Drawn start is start + start draw. Effective end is drawn start + duration + duration draw. Effective start is the later of drawn start
  * and the second after the clock at which the event was first accepted.
+ *
+ * Earliest start is the lesser of start and start + randomizeStart, which IEEE 2030.5 calls Earliest Effective Start Time. No draw and no
+ * late receipt moves it, so it can lie before the clock. It is never after the effective start.
  *
  * An image is accepted if it keeps every one of these rules. Else each function but hadulmir_fresh returns -2.
  *   - The clock is at most 9,000,000,000, the count at most 48. Added and cancelled are 0 or 1.
@@ -273,9 +284,10 @@ int32_t hadulmir_set_clock(uint8_t *image, uint64_t image_len, uint64_t reading,
 int32_t hadulmir_ask(const uint8_t *image, uint64_t image_len, uint8_t control, uint8_t *id, uint64_t id_len);
 
 /**
- * Lists the held events by ascending id, one record of 46 bytes behind the other from the front of `records`. The image stays as it was.
- * Answers their count, 0 to 48, and writes 46 bytes for each; the bytes behind stay as they were. records_len need be no multiple of 46.
- * Refuses with -2, and with -13 if records_len is below 46 times the count. HADULMIR_RECORDS_SIZE bytes always suffice.
+ * Lists the held events by ascending id, one record of 54 bytes behind the other from the front of `records`: the entry of the image, then the
+ * earliest start. The image stays as it was.
+ * Answers their count, 0 to 48, and writes 54 bytes for each; the bytes behind stay as they were. records_len need be no multiple of 54.
+ * Refuses with -2, and with -13 if records_len is below 54 times the count. HADULMIR_RECORDS_SIZE bytes always suffice.
  */
 int32_t hadulmir_list(const uint8_t *image, uint64_t image_len, uint8_t *records, uint64_t records_len);
 
@@ -415,33 +427,54 @@ static inline struct hadulmir_row hadulmir_row_at(const uint8_t *rows, size_t i)
     return row;
 }
 
-/** A held event. */
-struct hadulmir_record {
+/** A held event as it stands in an image. */
+struct hadulmir_entry {
     struct hadulmir_event event; /**< as it was delivered */
     uint64_t effective_start;    /**< see THE IMAGE above */
     uint32_t held;               /**< the mask of the controls that it holds now */
     uint8_t cancelled;           /**< 0 or 1 */
 };
 
+/** The entry of HADULMIR_ENTRY_SIZE bytes. */
+static inline struct hadulmir_entry hadulmir_entry_at(const uint8_t *bytes)
+{
+    struct hadulmir_entry entry;
+
+    entry.event.id = hadulmir_number_at(bytes, 8);
+    entry.event.program = bytes[8];
+    entry.event.controls = (uint32_t)hadulmir_number_at(bytes + 9, 4);
+    entry.event.created = (uint32_t)hadulmir_number_at(bytes + 13, 4);
+    entry.event.start = (uint32_t)hadulmir_number_at(bytes + 17, 4);
+    entry.event.duration = (uint32_t)hadulmir_number_at(bytes + 21, 4);
+    entry.event.randomize_start = hadulmir_signed_at(bytes + 25);
+    entry.event.randomize_duration = hadulmir_signed_at(bytes + 27);
+    entry.event.start_draw = hadulmir_signed_at(bytes + 29);
+    entry.event.duration_draw = hadulmir_signed_at(bytes + 31);
+    entry.effective_start = hadulmir_number_at(bytes + 33, 8);
+    entry.held = (uint32_t)hadulmir_number_at(bytes + 41, 4);
+    entry.cancelled = bytes[45];
+    return entry;
+}
+
+/** A held event as a listing gives it. */
+struct hadulmir_record {
+    struct hadulmir_entry entry; /**< as it stands in the image */
+    uint64_t earliest_start;     /**< when it might begin at the earliest, see THE IMAGE above */
+};
+
+/** When the event of record i might begin at the earliest; buffer and i are those of hadulmir_record_at. */
+static inline uint64_t hadulmir_earliest_start_at(const uint8_t *records, size_t i)
+{
+    return hadulmir_number_at(records + i * HADULMIR_RECORD_SIZE + HADULMIR_ENTRY_SIZE, 8);
+}
+
 /** Record i of a buffer that hadulmir_list wrote; i is below the count that it answered. */
 static inline struct hadulmir_record hadulmir_record_at(const uint8_t *records, size_t i)
 {
-    const uint8_t *at = records + i * HADULMIR_RECORD_SIZE;
     struct hadulmir_record record;
 
-    record.event.id = hadulmir_number_at(at, 8);
-    record.event.program = at[8];
-    record.event.controls = (uint32_t)hadulmir_number_at(at + 9, 4);
-    record.event.created = (uint32_t)hadulmir_number_at(at + 13, 4);
-    record.event.start = (uint32_t)hadulmir_number_at(at + 17, 4);
-    record.event.duration = (uint32_t)hadulmir_number_at(at + 21, 4);
-    record.event.randomize_start = hadulmir_signed_at(at + 25);
-    record.event.randomize_duration = hadulmir_signed_at(at + 27);
-    record.event.start_draw = hadulmir_signed_at(at + 29);
-    record.event.duration_draw = hadulmir_signed_at(at + 31);
-    record.effective_start = hadulmir_number_at(at + 33, 8);
-    record.held = (uint32_t)hadulmir_number_at(at + 41, 4);
-    record.cancelled = at[45];
+    record.entry = hadulmir_entry_at(records + i * HADULMIR_RECORD_SIZE);
+    record.earliest_start = hadulmir_earliest_start_at(records, i);
     return record;
 }
 
@@ -485,9 +518,9 @@ static inline struct hadulmir_program hadulmir_program_of(const uint8_t *image, 
 }
 
 /** Held event i, which is below the count; they stand by ascending id, as in a listing. */
-static inline struct hadulmir_record hadulmir_record_of(const uint8_t *image, size_t i)
+static inline struct hadulmir_entry hadulmir_entry_of(const uint8_t *image, size_t i)
 {
-    return hadulmir_record_at(image + HADULMIR_EVENTS_AT, i);
+    return hadulmir_entry_at(image + HADULMIR_EVENTS_AT + i * HADULMIR_ENTRY_SIZE);
 }
 
 #ifdef __cplusplus

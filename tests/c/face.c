@@ -1,7 +1,8 @@
 /*
  * Tests of the C face. Every call goes through `call`, which lends buffers of the exact length between guard bytes and looks at all that a
  * call must not touch: the guard bytes always, the bytes behind what was written, the image of a question or a listing, and everything
- * after a refusal. With -DGUARD=0 a buffer is a heap block of its exact length, so that valgrind sees a byte read or written outside it.
+ * after a refusal. It compares every byte of a listing with the image. With -DGUARD=0 a buffer is a heap block of its exact length, so that
+ * valgrind sees a byte read or written outside it.
  */
 #include <inttypes.h>
 #include <stdio.h>
@@ -225,6 +226,47 @@ static size_t written(enum kind kind, int32_t answer)
     }
 }
 
+/* A number as bytes, most significant first. */
+static void put(uint8_t *at, size_t size, uint64_t number)
+{
+    while (size > 0) {
+        size--;
+        at[size] = (uint8_t)(number & 0xFF);
+        number >>= 8;
+    }
+}
+
+/*
+ * When an event might begin at the earliest, by the sentence of #101: the lesser of start and start plus randomizeStart. From the bytes of its
+ * entry, without the header's readers.
+ */
+static int64_t earliest_start(const uint8_t *entry)
+{
+    int64_t start = entry[17] * INT64_C(16777216) + entry[18] * 65536 + entry[19] * 256 + entry[20];
+    int64_t moved = start + entry[25] * 256 + entry[26] - (entry[25] >= 128 ? 65536 : 0);
+
+    return moved < start ? moved : start;
+}
+
+/* Whether these are the records of the image: for each held event the 46 bytes of its entry, then 8 bytes of the earliest start. */
+static int records_of(const uint8_t *records, int32_t count, const uint8_t *image)
+{
+    uint8_t wanted[54];
+    int32_t i;
+
+    if (count != image[8])
+        return 0;
+    for (i = 0; i < count; i++) {
+        const uint8_t *entry = image + 57 + 46 * i;
+
+        memcpy(wanted, entry, 46);
+        put(wanted + 46, 8, (uint64_t)earliest_start(entry));
+        if (memcmp(records + 54 * i, wanted, 54) != 0)
+            return 0;
+    }
+    return 1;
+}
+
 /* The lent bytes as the last call left them. */
 static uint8_t lent_bytes[LENT_AT_MOST];
 
@@ -245,6 +287,8 @@ static int32_t call_at_length(uint8_t *image, size_t len, struct op op)
     if (op.kind == ASK || op.kind == LIST || ((op.kind == DELIVER || op.kind == CANCEL) && returned == 0))
         untouched = untouched && memcmp(own.at, image, len) == 0;
     CHECK(untouched);
+    if (op.kind == LIST && returned >= 0)
+        CHECK(written(LIST, returned) <= op.room && records_of(lent.at, returned, own.at));
     memcpy(image, own.at, len);
     memcpy(lent_bytes, lent.at, op.room);
     free(own.block);
@@ -270,15 +314,6 @@ static void expect_at(uint8_t *image, struct op op, int32_t wanted, int line)
 
 /* IMAGES BY HAND, and what is read out of them */
 
-static void put(uint8_t *at, size_t size, uint64_t number)
-{
-    while (size > 0) {
-        size--;
-        at[size] = (uint8_t)(number & 0xFF);
-        number >>= 8;
-    }
-}
-
 static void blank_image(uint8_t *image, uint64_t clock)
 {
     memset(image, 0, IMAGE);
@@ -296,7 +331,7 @@ static void put_program(uint8_t *image, uint8_t number, uint8_t primacy, uint32_
 
 static uint8_t *entry_of(uint8_t *image, size_t i)
 {
-    return image + HADULMIR_EVENTS_AT + i * HADULMIR_RECORD_SIZE;
+    return image + HADULMIR_EVENTS_AT + i * HADULMIR_ENTRY_SIZE;
 }
 
 /* Puts an entry behind the last one. */
@@ -391,11 +426,22 @@ static void rows_at(uint8_t *image, uint64_t reading, const char *wanted, int li
 
 #define ROWS(image, reading, wanted) rows_at((image), (reading), (wanted), __LINE__)
 
-/* Lists and compares: "id start-end held", with " cancelled" behind it. The room is one byte short, longer, and exact, as with rows. */
+/* A record as text: "id start-end held", behind it " cancelled", and " earliest TIME" where that is not the effective start. */
+static void record_text(char *text, size_t size, size_t i)
+{
+    struct hadulmir_record r = hadulmir_record_at(lent_bytes, i);
+    int used = snprintf(text, size, "%" PRIu64 " %" PRIu64 "-%" PRIu64 " %" PRIX32 "%s", r.entry.event.id, r.entry.effective_start,
+                        hadulmir_effective_end(&r.entry.event), r.entry.held, r.entry.cancelled ? " cancelled" : "");
+
+    if (r.earliest_start != r.entry.effective_start)
+        snprintf(text + used, size - (size_t)used, " earliest %" PRIu64, r.earliest_start);
+}
+
+/* Lists and compares the records, "; " between them. The room is one byte short, longer, and exact, as with rows. */
 static void listed_at(uint8_t *image, const char *wanted, int line)
 {
     static char text[TEXT_AT_MOST];
-    static const size_t more[] = {1, 45, 46, 100, 0};
+    static const size_t more[] = {1, 53, 54, 100, 0};
     size_t need = parts_of(wanted) * HADULMIR_RECORD_SIZE;
     size_t i, j;
     char part[128];
@@ -404,12 +450,9 @@ static void listed_at(uint8_t *image, const char *wanted, int line)
         expect_at(image, list(need - 1), HADULMIR_TOO_SHORT, line);
     for (i = 0; i < 5; i++) {
         expect_at(image, list(need + more[i]), (int32_t)parts_of(wanted), line);
-        check(memcmp(lent_bytes, image + HADULMIR_EVENTS_AT, need) == 0, "records are the entries of the image", line);
         text[0] = '\0';
         for (j = 0; j < parts_of(wanted); j++) {
-            struct hadulmir_record r = hadulmir_record_at(lent_bytes, j);
-            snprintf(part, sizeof part, "%" PRIu64 " %" PRIu64 "-%" PRIu64 " %" PRIX32 "%s", r.event.id, r.effective_start,
-                     hadulmir_effective_end(&r.event), r.held, r.cancelled ? " cancelled" : "");
+            record_text(part, sizeof part, j);
             append(text, part);
         }
         if (strcmp(text, wanted) != 0)
@@ -896,14 +939,6 @@ static void test_full(void)
         TRY(image, set_clock(4995 + 5 * i, 17 * i - 1), HADULMIR_TOO_SHORT);
     }
 
-    /* Every count of records. */
-    begin(image, 4000);
-    for (i = 1; i <= HADULMIR_EVENTS_AT_MOST; i++) {
-        EXPECT(image, event(UINT64_MAX / i, 0, 1, 0, 5000, 5), HADULMIR_RECEIVED);
-        EXPECT(image, list(46 * i), (int32_t)i);
-        EXPECT(image, list(46 * i - 1), HADULMIR_TOO_SHORT);
-    }
-
     /* One place comes free at an end, not before. A cancelled event keeps its place. */
     fill(image);
     EXPECT(image, cancel(100), HADULMIR_CANCELLED);
@@ -937,6 +972,25 @@ static void test_full(void)
         HOLDER(image, (uint8_t)i, i < 16 ? i + 32 : i);
 }
 
+/* Every count of records, with randomisations of both signs: 54 bytes for each do; one byte less does not, nor does room for the entries. */
+static void test_rooms(void)
+{
+    uint8_t image[IMAGE];
+    size_t i, room;
+
+    begin(image, 4000);
+    EXPECT(image, list(0), 0);
+    for (i = 1; i <= HADULMIR_EVENTS_AT_MOST; i++) {
+        int32_t bound = i % 2 == 0 ? 7 * (int32_t)i : -7 * (int32_t)i;
+
+        EXPECT(image, drawn(event(UINT64_MAX / i, 0, 1, 0, 5000 + (uint32_t)i, 5), bound, bound / 2, 0, 0), HADULMIR_RECEIVED);
+        for (room = 46 * i - 1; room < 54 * i; room++)
+            EXPECT(image, list(room), HADULMIR_TOO_SHORT);
+        for (; room <= 54 * i + 9; room++)
+            EXPECT(image, list(room), (int32_t)i);
+    }
+}
+
 /* DOCUMENT 01'S MARKS AND EXAMPLE */
 
 static const struct op mark = {.kind = DELIVER, .id = 1, .controls = 1, .created = 100, .start = 5000, .duration = 600};
@@ -953,12 +1007,12 @@ static void test_marks(void)
     /* T2 */
     begin(image, 5000);
     EXPECT(image, mark, HADULMIR_RECEIVED);
-    LISTED(image, "1 5001-5600 0");
+    LISTED(image, "1 5001-5600 0 earliest 5000");
     ROWS(image, 6000, "5001 1 2; 5600 1 3");
     /* T3 */
     begin(image, 5598);
     EXPECT(image, mark, HADULMIR_RECEIVED);
-    LISTED(image, "1 5599-5600 0");
+    LISTED(image, "1 5599-5600 0 earliest 5000");
     ROWS(image, 6000, "5599 1 2; 5600 1 3");
     /* T4 */
     begin(image, 5599);
@@ -1019,6 +1073,73 @@ static void test_marks(void)
     ROWS(image, 7000, "5000 1 7; 5000 2 2; 5600 2 3");
 }
 
+/* WHEN AN EVENT MIGHT BEGIN AT THE EARLIEST */
+
+/* One event of 600 s, received at a clock: neither the draw nor a late receipt moves its earliest start. */
+static void test_earliest(void)
+{
+    static const struct {
+        uint64_t clock;
+        uint32_t start;
+        int32_t randomize_start, start_draw;
+        const char *listed;
+    } cases[] = {
+        {4000, 5000, -300, -300, "1 4700-5300 0"}, /* T5 */
+        {4000, 5000, -300, 0, "1 5000-5600 0 earliest 4700"},
+        {4000, 5000, -300, -299, "1 4701-5301 0 earliest 4700"},
+        {4000, 5000, 300, 300, "1 5300-5900 0 earliest 5000"},
+        {4000, 5000, 300, 0, "1 5000-5600 0"},
+        {4000, 5000, -1, 0, "1 5000-5600 0 earliest 4999"},
+        {4000, 5000, 1, 1, "1 5001-5601 0 earliest 5000"},
+        /* received late, also where the start itself is not yet reached */
+        {5100, 5000, -300, -300, "1 5101-5300 0 earliest 4700"},
+        {5100, 5000, -300, 0, "1 5101-5600 0 earliest 4700"},
+        {5100, 5000, 300, 0, "1 5101-5600 0 earliest 5000"},
+        {5100, 5000, 300, 300, "1 5300-5900 0 earliest 5000"},
+        {4800, 5000, -300, -300, "1 4801-5300 0 earliest 4700"},
+        /* the least and the greatest start, and a borrow from byte to byte */
+        {0, 3600, -3600, 0, "1 3600-4200 0 earliest 0"},
+        {0, 3600, -3600, -3600, "1 1-600 0 earliest 0"},
+        {0, 3600, 3600, 3600, "1 7200-7800 0 earliest 3600"},
+        {0, 65536, -1, 0, "1 65536-66136 0 earliest 65535"},
+        {0, 16777216, -3600, 0, "1 16777216-16777816 0 earliest 16773616"},
+        {4000, 4294967295u, 3600, 3600, "1 4294970895-4294971495 0 earliest 4294967295"},
+        {4000, 4294967295u, 3600, 0, "1 4294967295-4294967895 0"},
+        {4000, 4294967295u, -3600, 0, "1 4294967295-4294967895 0 earliest 4294963695"},
+        {UINT64_C(4294967500), 4294967295u, 3600, 0, "1 4294967501-4294967895 0 earliest 4294967295"}};
+    uint8_t image[IMAGE];
+    size_t i;
+
+    for (i = 0; i < sizeof cases / sizeof cases[0]; i++) {
+        begin(image, cases[i].clock);
+        EXPECT(image, drawn(event(1, 0, 1, 100, cases[i].start, 600), cases[i].randomize_start, cases[i].start_draw, 0, 0), HADULMIR_RECEIVED);
+        LISTED(image, cases[i].listed);
+    }
+}
+
+/* It stays what it is while the event runs, is superseded, is cancelled, is delivered again. */
+static void test_earliest_stays(void)
+{
+    uint8_t image[IMAGE];
+    const struct op first = drawn(event(1, 0, 1, 100, 5000, 600), -300, -100, 60, 60);
+    const struct op second = drawn(event(2, 0, 1, 200, 5200, 100), 60, 30, -10, -5);
+
+    begin(image, 4000);
+    EXPECT(image, first, HADULMIR_RECEIVED);
+    EXPECT(image, second, HADULMIR_RECEIVED);
+    LISTED(image, "1 4900-5560 0 earliest 4700; 2 5230-5325 0 earliest 5200");
+    ROWS(image, 5000, "4900 1 2");
+    LISTED(image, "1 4900-5560 1 earliest 4700; 2 5230-5325 0 earliest 5200");
+    ROWS(image, 5240, "5230 1 7; 5230 2 2");
+    LISTED(image, "1 4900-5560 0 earliest 4700; 2 5230-5325 1 earliest 5200");
+    EXPECT(image, cancel(1), HADULMIR_CANCELLED);
+    EXPECT(image, cancel(2), HADULMIR_CANCELLED);
+    EXPECT(image, first, 0);
+    LISTED(image, "1 4900-5560 0 cancelled earliest 4700; 2 5230-5325 0 cancelled earliest 5200");
+    ROWS(image, 5325, "");
+    LISTED(image, "1 4900-5560 0 cancelled earliest 4700");
+}
+
 static void test_example(void)
 {
     uint8_t image[IMAGE];
@@ -1045,7 +1166,7 @@ static void test_unreachable(void)
     blank_image(image, 4000);
     put_program(image, 0, 1, 0);
     put_event(image, e, 5500, 0, 0);
-    LISTED(image, "1 5500-5600 0");
+    LISTED(image, "1 5500-5600 0 earliest 5000");
     EXPECT(image, e, 0);
     ROWS(image, 5499, "");
     ROWS(image, 6000, "5500 1 2; 5600 1 3");
@@ -1077,6 +1198,7 @@ static void test_unreachable(void)
     put_event(image, drawn(event(2, 0, 2, 100, 3600, 600), -3600, -3600, 0, 0), 0, 0, 0);
     HOLDER(image, 0, 1);
     NONE(image, 1);
+    LISTED(image, "1 0-600 1; 2 0-600 0");
     ROWS(image, 1000, "600 1 3");
 
     /* What is held at the clock of the image can be lost in the next second. */
@@ -1110,7 +1232,7 @@ static void all_refuse_at(const uint8_t *image, size_t len, int line)
 {
     const struct op ops[] = {
         add(6, 1, 0), add(255, 3, 0), event(77, 0, 4, 0, 9000, 9), event(10, 9, 0, 0, 0, 0), cancel(10), cancel(1),
-        set_clock(5200, 1632), set_clock(0, 0), ask(0, 8), ask(99, 0), list(2208), list(0)};
+        set_clock(5200, 1632), set_clock(0, 0), ask(0, 8), ask(99, 0), list(2592), list(0)};
     uint8_t copy[2 * IMAGE];
     size_t i;
 
@@ -1152,13 +1274,13 @@ static void unbroken_at(size_t at, size_t size, uint64_t number, int line)
 
     sound_image(image);
     put(image + at, size, number);
-    expect_at(image, list(138), 3, line);
+    expect_at(image, list(162), 3, line);
 }
 
 #define BREAKS(at, size, number) broken_at((at), (size), (number), __LINE__)
 #define KEEPS(at, size, number) unbroken_at((at), (size), (number), __LINE__)
 #define PROGRAM(n) (9 + 6 * (size_t)(n))
-#define ENTRY(i) (HADULMIR_EVENTS_AT + HADULMIR_RECORD_SIZE * (size_t)(i))
+#define ENTRY(i) (HADULMIR_EVENTS_AT + HADULMIR_ENTRY_SIZE * (size_t)(i))
 
 static void test_broken(void)
 {
@@ -1167,7 +1289,7 @@ static void test_broken(void)
     size_t i;
 
     sound_image(image);
-    EXPECT(image, list(138), 3);
+    EXPECT(image, list(162), 3);
     EXPECT(image, ask(0, 8), HADULMIR_EVENT);
 
     /* length */
@@ -1199,7 +1321,7 @@ static void test_broken(void)
     BREAKS(PROGRAM(3) + 2, 4, 0x80000000u);
     BREAKS(8, 1, 2);
     BREAKS(8, 1, 4);
-    for (i = 0; i < HADULMIR_RECORD_SIZE; i++) {
+    for (i = 0; i < HADULMIR_ENTRY_SIZE; i++) {
         BREAKS(ENTRY(3) + i, 1, 1);
         BREAKS(ENTRY(47) + i, 1, 1);
     }
@@ -1248,7 +1370,7 @@ static void test_broken(void)
     blank_image(image, 4000);
     put_program(image, 0, 1, 0);
     put_event(image, drawn(event(1, 0, 1, 0, 5000, 10), 0, 0, -10, -9), 5000, 0, 0);
-    EXPECT(image, list(46), 1);
+    EXPECT(image, list(54), 1);
     put(entry_of(image, 0) + 31, 2, hadulmir_signed(-10));
     all_refuse_at(image, IMAGE, __LINE__);
 
@@ -1282,7 +1404,7 @@ static void test_broken(void)
     put_event(image, event(1, 0, 3, 0, 5000, 600), 5000, 1, 0);
     put_event(image, event(2, 0, 4, 0, 5000, 600), 5000, 4, 0);
     put_event(image, event(3, 0, 3, 0, 5000, 600), 5000, 2, 0);
-    EXPECT(image, list(138), 3);
+    EXPECT(image, list(162), 3);
     put(entry_of(image, 2) + 41, 4, 3);
     all_refuse_at(image, IMAGE, __LINE__);
     put(entry_of(image, 2) + 41, 4, 1);
@@ -1304,9 +1426,9 @@ static int outside(int32_t randomisation)
     return randomisation < -3600 || randomisation > 3600;
 }
 
-static int event_keeps_rules(const uint8_t *image, const struct hadulmir_record *r)
+static int event_keeps_rules(const uint8_t *image, const struct hadulmir_entry *entry)
 {
-    const struct hadulmir_event *e = &r->event;
+    const struct hadulmir_event *e = &entry->event;
     uint64_t clock = hadulmir_clock_of(image);
     int64_t drawn_start = (int64_t)e->start + e->start_draw;
     int64_t end = drawn_start + e->duration + e->duration_draw;
@@ -1319,11 +1441,11 @@ static int event_keeps_rules(const uint8_t *image, const struct hadulmir_record 
         return 0;
     if (!draw_fits(e->randomize_start, e->start_draw) || !draw_fits(e->randomize_duration, e->duration_draw))
         return 0;
-    if (r->effective_start < (uint64_t)drawn_start || r->effective_start >= (uint64_t)end || (uint64_t)end <= clock)
+    if (entry->effective_start < (uint64_t)drawn_start || entry->effective_start >= (uint64_t)end || (uint64_t)end <= clock)
         return 0;
-    if ((r->held & ~e->controls) != 0 || r->cancelled > 1)
+    if ((entry->held & ~e->controls) != 0 || entry->cancelled > 1)
         return 0;
-    return r->held == 0 || (clock >= r->effective_start && !r->cancelled);
+    return entry->held == 0 || (clock >= entry->effective_start && !entry->cancelled);
 }
 
 static int keeps_rules(const uint8_t *image)
@@ -1346,12 +1468,12 @@ static int keeps_rules(const uint8_t *image)
         if (image[i] != 0)
             return 0;
     for (i = 0; i < image[8]; i++) {
-        struct hadulmir_record r = hadulmir_record_of(image, i);
+        struct hadulmir_entry e = hadulmir_entry_of(image, i);
 
-        if ((i > 0 && r.event.id <= last) || !event_keeps_rules(image, &r) || (r.held & taken) != 0)
+        if ((i > 0 && e.event.id <= last) || !event_keeps_rules(image, &e) || (e.held & taken) != 0)
             return 0;
-        last = r.event.id;
-        taken |= r.held;
+        last = e.event.id;
+        taken |= e.held;
     }
     return 1;
 }
@@ -1430,7 +1552,7 @@ static void test_changed(void)
     EXPECT(base[3], set_clock(5120, 1632), 4);
     for (i = 0; i < 6000; i++) {
         const struct op ops[] = {add((uint8_t)(i % 8), 1, 1), event(i % 50, 0, 1 + i % 7, i, 5000 + i, 50), cancel(i % 30),
-                                 set_clock(hadulmir_clock_of(base[i % 4]) + i % 500, 1632), ask((uint8_t)(i % 32), 8), list(2208)};
+                                 set_clock(hadulmir_clock_of(base[i % 4]) + i % 500, 1632), ask((uint8_t)(i % 32), 8), list(2592)};
         int sound, all = 1;
 
         memcpy(image, base[i % 4], IMAGE);
@@ -1460,7 +1582,7 @@ static void day(struct op *ops)
     const struct op list_of_calls[OPS] = {
         add(0, 1, 1), add(1, 0, 2), ask(0, 8), set_clock(4000, 1632), event(1, 0, 1, 100, 5000, 600), event(2, 0, 1, 200, 5300, 60),
         event(3, 1, 3, 50, 5350, 100), drawn(event(4, 0, 0x80000000u, 50, 5000, 500), -300, -17, 100, 9), event(1, 0, 1, 100, 5000, 600),
-        list(2208), set_clock(5000, 1632), ask(0, 8), cancel(9), set_clock(5310, 33), set_clock(5310, 34), ask(0, 8), list(91), list(200),
+        list(2592), set_clock(5000, 1632), ask(0, 8), cancel(9), set_clock(5310, 33), set_clock(5310, 34), ask(0, 8), list(200), list(230),
         cancel(4), cancel(4), set_clock(5360, 1632), event(5, 0, 0, 0, 0, 0), event(6, 1, 4, 1, 5300, 200), ask(1, 8), set_clock(7000, 1632),
         list(0)};
 
@@ -1500,16 +1622,19 @@ static void test_power(void)
 {
     static const int32_t wanted[OPS] = {0, 0, 2, 0, 1, 1, 1, 1, 0, 4, 2, 1, -11, -13, 2, 1, -13, 4, 6, 0, 2, -7, 1, 1, 3, 0};
     static uint8_t lent[2][OPS][LENT_AT_MOST], images[2][OPS][IMAGE];
+    struct op ops[OPS];
     int32_t returned[2][OPS];
     uint64_t cuts;
     unsigned k;
 
+    day(ops);
     run_day(0, returned[0], lent[0], images[0]);
     for (k = 0; k < OPS; k++) {
         if (returned[0][k] != wanted[k])
             printf("face.c: call %u of the day returned %" PRId32 "\n", k, returned[0][k]);
         CHECK(returned[0][k] == wanted[k]);
         CHECK(keeps_rules(images[0][k]));
+        CHECK(ops[k].kind != LIST || returned[0][k] < 0 || records_of(lent[0][k], returned[0][k], images[0][k]));
     }
     /* after each single call, then after every one */
     for (k = 0; k <= OPS; k++) {
@@ -1537,10 +1662,10 @@ static void move_over(uint8_t *to, const uint8_t *from)
             CHECK(hadulmir_add_program(to, IMAGE, (uint8_t)i, p.primacy, p.defaults) == 0);
     }
     for (i = 0; i < hadulmir_count_of(from); i++) {
-        struct hadulmir_record r = hadulmir_record_of(from, i);
+        struct hadulmir_entry e = hadulmir_entry_of(from, i);
 
-        if (!r.cancelled)
-            CHECK(hadulmir_deliver_event(to, IMAGE, &r.event) == HADULMIR_RECEIVED);
+        if (!e.cancelled)
+            CHECK(hadulmir_deliver_event(to, IMAGE, &e.event) == HADULMIR_RECEIVED);
     }
     CHECK(hadulmir_set_clock(to, IMAGE, hadulmir_clock_of(from), rows, sizeof rows) >= 0);
 }
@@ -1563,7 +1688,7 @@ static void test_fresh_again(void)
     /* without what was cancelled, its place is free, and what it had superseded holds again */
     EXPECT(image, cancel(2), HADULMIR_CANCELLED);
     move_over(moved, image);
-    LISTED(moved, "1 5000-5600 1; 3 5070-7100 6");
+    LISTED(moved, "1 5000-5600 1; 3 5070-7100 6 earliest 5040");
     ROWS(moved, 7200, "5600 1 3; 7100 3 3");
 }
 
@@ -1574,8 +1699,9 @@ static void test_names(void)
     char version[16];
 
     CHECK(HADULMIR_IMAGE_SIZE == 2265 && HADULMIR_ROW_SIZE == 17 && HADULMIR_ROWS_AT_MOST == 96 && HADULMIR_ROWS_SIZE == 1632);
-    CHECK(HADULMIR_RECORD_SIZE == 46 && HADULMIR_EVENTS_AT_MOST == 48 && HADULMIR_RECORDS_SIZE == 2208 && HADULMIR_ID_SIZE == 8);
-    CHECK(HADULMIR_PROGRAMS_AT_MOST == 8 && HADULMIR_CONTROLS_AT_MOST == 32 && HADULMIR_CLOCK_AT_MOST == UINT64_C(9000000000));
+    CHECK(HADULMIR_ENTRY_SIZE == 46 && HADULMIR_RECORD_SIZE == 54 && HADULMIR_EVENTS_AT_MOST == 48 && HADULMIR_RECORDS_SIZE == 2592);
+    CHECK(HADULMIR_ID_SIZE == 8 && HADULMIR_PROGRAMS_AT_MOST == 8 && HADULMIR_CONTROLS_AT_MOST == 32);
+    CHECK(HADULMIR_CLOCK_AT_MOST == UINT64_C(9000000000));
     CHECK(HADULMIR_CLOCK_AT == 0 && HADULMIR_COUNT_AT == 8 && HADULMIR_PROGRAMS_AT == 9 && HADULMIR_PROGRAM_SIZE == 6);
     CHECK(HADULMIR_EVENTS_AT == 57 && HADULMIR_IMAGE_LAYOUT == 1);
     CHECK(HADULMIR_BAD_IMAGE == -2 && HADULMIR_PROGRAM_TOO_LARGE == -3 && HADULMIR_PROGRAM_ADDED == -4 && HADULMIR_PRIMACY_RESERVED == -5);
@@ -1619,46 +1745,51 @@ static void test_helpers(void)
           && hadulmir_row_at(row, 1).code == 7);
 }
 
-/* Whether a record has the fields of test_record's event, each of them different. */
-static int has_fields(const struct hadulmir_record *r)
+/* Whether an entry has the fields of test_record's event, each of them different. */
+static int has_fields(const struct hadulmir_entry *entry)
 {
-    const struct hadulmir_event *e = &r->event;
+    const struct hadulmir_event *e = &entry->event;
 
     return e->id == UINT64_C(0x0102030405060708) && e->program == 7 && e->controls == 0xA1B2C3D4u && e->created == 0x11223344
            && e->start == 0x55667788 && e->duration == 0x99AABBCCu && e->randomize_start == -3600 && e->randomize_duration == 3599
-           && e->start_draw == -2 && e->duration_draw == 3 && r->effective_start == 0x55667786 && r->held == 0 && r->cancelled == 0;
+           && e->start_draw == -2 && e->duration_draw == 3 && entry->effective_start == 0x55667786 && entry->held == 0
+           && entry->cancelled == 0;
 }
 
-/* A record with every field different, through the part and the helpers, and the image as its readers see it. */
+/* A record with every field different, through the part and the helpers, and the image as its readers see it. It is listed behind another. */
 static void test_record(void)
 {
+    static const uint8_t earliest[8] = {0, 0, 0, 0, 0x55, 0x66, 0x69, 0x78}; /* 0x55667788 less 3600 */
     uint8_t image[IMAGE], again[IMAGE];
     struct hadulmir_record r;
+    struct hadulmir_entry e;
     struct hadulmir_program p;
 
     fresh(image);
     EXPECT(image, add(7, 191, 0xFF000001u), 0);
-    CHECK(hadulmir_count_of(image) == 0);
+    EXPECT(image, event(1, 7, 1, 0, 5000, 600), HADULMIR_RECEIVED);
+    CHECK(hadulmir_count_of(image) == 1);
     memcpy(again, image, IMAGE);
     EXPECT(image, drawn(event(UINT64_C(0x0102030405060708), 7, 0xA1B2C3D4u, 0x11223344, 0x55667788, 0x99AABBCCu), -3600, -2, 3599, 3),
            HADULMIR_RECEIVED);
-    EXPECT(image, list(46), 1);
-    r = hadulmir_record_at(lent_bytes, 0);
-    CHECK(has_fields(&r));
-    CHECK(hadulmir_effective_end(&r.event) == UINT64_C(0x55667786) + 0x99AABBCCu + 3);
-    CHECK(hadulmir_count_of(image) == 1);
+    EXPECT(image, list(108), 2);
+    r = hadulmir_record_at(lent_bytes, 1);
+    CHECK(has_fields(&r.entry) && r.earliest_start == 0x55666978 && memcmp(lent_bytes + 100, earliest, 8) == 0);
+    CHECK(hadulmir_earliest_start_at(lent_bytes, 1) == 0x55666978 && hadulmir_earliest_start_at(lent_bytes, 0) == 5000);
+    CHECK(hadulmir_effective_end(&r.entry.event) == UINT64_C(0x55667786) + 0x99AABBCCu + 3);
+    CHECK(hadulmir_count_of(image) == 2);
     p = hadulmir_program_of(image, 7);
     CHECK(p.added == 1 && p.primacy == 191 && p.defaults == 0xFF000001u);
     p = hadulmir_program_of(image, 6);
     CHECK(p.added == 0 && p.primacy == 0 && p.defaults == 0);
 
     /* the same event by its struct, as it was read out of the image */
-    r = hadulmir_record_of(image, 0);
-    CHECK(has_fields(&r));
-    CHECK(hadulmir_deliver_event(again, IMAGE, &r.event) == HADULMIR_RECEIVED && same(again, image));
-    CHECK(hadulmir_deliver_event(again, IMAGE, &r.event) == 0 && same(again, image));
-    r.event.start_draw = 65534; /* cut off to 16 bits this is -2 */
-    CHECK(hadulmir_deliver_event(again, IMAGE, &r.event) == HADULMIR_EVENT_INVALID && same(again, image));
+    e = hadulmir_entry_of(image, 1);
+    CHECK(has_fields(&e));
+    CHECK(hadulmir_deliver_event(again, IMAGE, &e.event) == HADULMIR_RECEIVED && same(again, image));
+    CHECK(hadulmir_deliver_event(again, IMAGE, &e.event) == 0 && same(again, image));
+    e.event.start_draw = 65534; /* cut off to 16 bits this is -2 */
+    CHECK(hadulmir_deliver_event(again, IMAGE, &e.event) == HADULMIR_EVENT_INVALID && same(again, image));
 }
 
 int main(void)
@@ -1674,7 +1805,10 @@ int main(void)
     test_set_clock();
     test_ask();
     test_full();
+    test_rooms();
     test_marks();
+    test_earliest();
+    test_earliest_stays();
     test_example();
     test_unreachable();
     test_broken();

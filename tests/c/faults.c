@@ -84,14 +84,34 @@ int32_t __wrap_hadulmir_ask(const uint8_t *image, uint64_t image_len, uint8_t co
     return returned;
 }
 
-/* 13: a byte of the image is changed. 14: a byte behind the image is read, which valgrind alone sees. */
+/* Puts another earliest start into a record. */
+static void put_earliest(uint8_t *record, uint64_t time)
+{
+    size_t i;
+
+    for (i = HADULMIR_RECORD_SIZE; i > HADULMIR_ENTRY_SIZE; i--) {
+        record[i - 1] = (uint8_t)time;
+        time >>= 8;
+    }
+}
+
+/* 13: a byte of the image is changed. 14: the earliest start is the effective start. 15: it is start + randomizeStart, lesser or not. 16: a
+   buffer that is long enough for the entries alone is accepted. 17: a byte behind the image is read, which valgrind alone sees. */
 int32_t __wrap_hadulmir_list(const uint8_t *image, uint64_t image_len, uint8_t *records, uint64_t records_len)
 {
-    int32_t returned = __real_hadulmir_list(image, image_len, records, records_len);
+    int32_t returned = __real_hadulmir_list(image, image_len, records, records_len), i;
 
     if (FAULT == 13 && returned == 48)
         ((uint8_t *)image)[0] ^= 1;
-    if (FAULT == 14 && returned >= 0 && image[image_len] == 0x77 && image[image_len + 1] == 0x78)
+    for (i = 0; (FAULT == 14 || FAULT == 15) && i < returned; i++) {
+        struct hadulmir_entry e = hadulmir_record_at(records, (size_t)i).entry;
+        int64_t moved = (int64_t)e.event.start + e.event.randomize_start;
+
+        put_earliest(records + (size_t)i * HADULMIR_RECORD_SIZE, FAULT == 14 ? e.effective_start : (uint64_t)moved);
+    }
+    if (FAULT == 16 && returned == HADULMIR_TOO_SHORT && records_len >= (uint64_t)HADULMIR_ENTRY_SIZE * hadulmir_count_of(image))
+        return hadulmir_count_of(image);
+    if (FAULT == 17 && returned >= 0 && image[image_len] == 0x77 && image[image_len + 1] == 0x78)
         return returned + 1;
     return returned;
 }

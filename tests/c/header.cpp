@@ -21,13 +21,13 @@ static void check(bool ok, int line)
 #define CHECK(ok) check((ok), __LINE__)
 
 static_assert(HADULMIR_IMAGE_SIZE == 2265 && HADULMIR_ROW_SIZE == 17 && HADULMIR_ROWS_AT_MOST == 96, "sizes");
-static_assert(HADULMIR_ROWS_SIZE == 1632 && HADULMIR_RECORD_SIZE == 46 && HADULMIR_EVENTS_AT_MOST == 48, "sizes");
-static_assert(HADULMIR_RECORDS_SIZE == 2208 && HADULMIR_ID_SIZE == 8 && HADULMIR_PROGRAMS_AT_MOST == 8 && HADULMIR_CONTROLS_AT_MOST == 32, "sizes");
+static_assert(HADULMIR_ROWS_SIZE == 1632 && HADULMIR_ENTRY_SIZE == 46 && HADULMIR_RECORD_SIZE == 54 && HADULMIR_EVENTS_AT_MOST == 48, "sizes");
+static_assert(HADULMIR_RECORDS_SIZE == 2592 && HADULMIR_ID_SIZE == 8 && HADULMIR_PROGRAMS_AT_MOST == 8 && HADULMIR_CONTROLS_AT_MOST == 32, "sizes");
 static_assert(HADULMIR_CLOCK_AT_MOST == 9000000000u && HADULMIR_STACK_SIZE > 0, "limits");
 static_assert(HADULMIR_VERSION >= 10000 && sizeof HADULMIR_VERSION_TEXT > 5 && HADULMIR_IMAGE_LAYOUT > 0, "version");
 static_assert(HADULMIR_COUNT_AT == HADULMIR_CLOCK_AT + 8 && HADULMIR_PROGRAMS_AT == HADULMIR_COUNT_AT + 1, "image layout");
 static_assert(HADULMIR_EVENTS_AT == HADULMIR_PROGRAMS_AT + HADULMIR_PROGRAMS_AT_MOST * HADULMIR_PROGRAM_SIZE, "image layout");
-static_assert(HADULMIR_IMAGE_SIZE == HADULMIR_EVENTS_AT + HADULMIR_EVENTS_AT_MOST * HADULMIR_RECORD_SIZE, "image layout");
+static_assert(HADULMIR_IMAGE_SIZE == HADULMIR_EVENTS_AT + HADULMIR_EVENTS_AT_MOST * HADULMIR_ENTRY_SIZE, "image layout");
 
 // A length is a 64-bit number wherever the header is compiled, and what is only read is lent as such.
 static_assert(std::is_same<decltype(&hadulmir_fresh), int32_t (*)(uint8_t *, uint64_t)>::value, "lengths");
@@ -66,7 +66,7 @@ int main()
 
     CHECK(hadulmir_fresh(image, sizeof image) == 0);
     CHECK(hadulmir_add_program(image, sizeof image, 0, 1, 0x2) == 0);
-    int32_t returned = hadulmir_deliver(image, sizeof image, 7, 0, 0x1, 100, 5000, 600, hadulmir_signed(-300), hadulmir_signed(0),
+    int32_t returned = hadulmir_deliver(image, sizeof image, 7, 0, 0x1, 100, 5000, 600, hadulmir_signed(-400), hadulmir_signed(0),
                                         hadulmir_signed(-300), hadulmir_signed(0));
     CHECK(returned == HADULMIR_RECEIVED && !hadulmir_is_refusal(returned) && hadulmir_response_for(returned) == 0);
     CHECK(hadulmir_set_clock(image, sizeof image, 4700, rows, sizeof rows) == 1);
@@ -81,14 +81,17 @@ int main()
 
     CHECK(hadulmir_list(image, sizeof image, records, sizeof records) == 1);
     hadulmir_record record = hadulmir_record_at(records, 0);
-    hadulmir_event event = record.event;
+    hadulmir_entry entry = record.entry;
+    hadulmir_event event = entry.event;
     CHECK(event.id == 7 && event.program == 0 && event.controls == 1 && event.created == 100 && event.start == 5000);
-    CHECK(event.duration == 600 && event.randomize_start == -300 && event.randomize_duration == 0);
+    CHECK(event.duration == 600 && event.randomize_start == -400 && event.randomize_duration == 0);
     CHECK(event.start_draw == -300 && event.duration_draw == 0 && hadulmir_signed_at(records + 29) == -300);
-    CHECK(record.effective_start == 4700 && record.held == 1 && record.cancelled == 0);
+    CHECK(entry.effective_start == 4700 && entry.held == 1 && entry.cancelled == 0);
+    CHECK(record.earliest_start == 4600 && hadulmir_earliest_start_at(records, 0) == 4600);
     CHECK(hadulmir_effective_end(&event) == 5300);
     CHECK(hadulmir_deliver_event(image, sizeof image, &event) == 0);
-    CHECK(hadulmir_count_of(image) == 1 && hadulmir_record_of(image, 0).event.id == 7 && hadulmir_record_of(image, 0).held == 1);
+    CHECK(hadulmir_count_of(image) == 1 && hadulmir_entry_of(image, 0).event.id == 7 && hadulmir_entry_of(image, 0).held == 1);
+    CHECK(hadulmir_entry_at(records).event.id == 7);
     hadulmir_program program = hadulmir_program_of(image, 0);
     CHECK(program.added == 1 && program.primacy == 1 && program.defaults == 0x2);
 

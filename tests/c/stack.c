@@ -109,7 +109,7 @@ static size_t touched_by(void (*call)(void), uint8_t pattern)
     return STACK - i;
 }
 
-/* Images from empty to full: `events` events one behind the other, on one control or on many, some of them begun. */
+/* Images from empty to full: `events` events one behind the other, on one control or on many, some of them begun, randomised either way. */
 static void make_image(uint32_t events, uint32_t controls, uint64_t clock)
 {
     uint32_t i;
@@ -117,7 +117,7 @@ static void make_image(uint32_t events, uint32_t controls, uint64_t clock)
     hadulmir_fresh(image, IMAGE);
     hadulmir_add_program(image, IMAGE, 0, 1, 1);
     for (i = 0; i < events; i++)
-        hadulmir_deliver(image, IMAGE, 1000 + i, 0, controls, i, 5000 + 10 * i, 900, 0, 0, 0, 0);
+        hadulmir_deliver(image, IMAGE, 1000 + i, 0, controls, i, 5000 + 10 * i, 900, hadulmir_signed(i % 2 == 0 ? -60 : 60), 0, 0, 0);
     hadulmir_set_clock(image, IMAGE, clock, rows, sizeof rows);
 }
 

@@ -87,7 +87,7 @@ struct call {
     uint64_t room;
 };
 
-static uint32_t calls, answered[KINDS], refused[15], rows_of[8], cancelled, held_by_event, by_default, by_nobody, unchanged;
+static uint32_t calls, answered[KINDS], refused[15], rows_of[8], cancelled, held_by_event, by_default, by_nobody, unchanged, earlier, later;
 
 static int32_t act(const struct call *c, uint64_t len, uint8_t *lent)
 {
@@ -133,12 +133,24 @@ static void count(const struct call *c, int32_t returned, const uint8_t *lent)
     }
     for (i = 0; c->kind == CLOCK && i < returned; i++)
         rows_of[hadulmir_row_at(lent, (size_t)i).code & 7]++;
+    for (i = 0; c->kind == LIST && i < returned; i++) {
+        struct hadulmir_record record = hadulmir_record_at(lent, (size_t)i);
+
+        earlier += record.earliest_start < record.entry.event.start;
+        later += record.earliest_start == record.entry.event.start && record.entry.event.randomize_start > 0;
+    }
+}
+
+/* Events that are held, also if the count is spoilt. */
+static uint32_t held(void)
+{
+    return image[HADULMIR_COUNT_AT] % (HADULMIR_EVENTS_AT_MOST + 1);
 }
 
 /* Changes a bit of the image, mostly where something stands. */
 static void spoil(void)
 {
-    size_t used = HADULMIR_EVENTS_AT + (size_t)HADULMIR_RECORD_SIZE * (image[HADULMIR_COUNT_AT] % (HADULMIR_EVENTS_AT_MOST + 1));
+    size_t used = HADULMIR_EVENTS_AT + (size_t)HADULMIR_ENTRY_SIZE * held();
     size_t at = below((uint32_t)(once_in(4) ? IMAGE : used));
 
     image[at] ^= (uint8_t)(1u << below(8));
@@ -294,9 +306,8 @@ static void pass_time(void)
 static void cancel(void)
 {
     struct call c = blank(CANCEL);
-    uint32_t held = image[HADULMIR_COUNT_AT] % (HADULMIR_EVENTS_AT_MOST + 1);
 
-    c.number = held > 0 && below(5) != 0 ? hadulmir_number_at(image + HADULMIR_EVENTS_AT + HADULMIR_RECORD_SIZE * below(held), 8) : id_of(below(IDS));
+    c.number = held() > 0 && below(5) != 0 ? hadulmir_entry_of(image, below(held())).event.id : id_of(below(IDS));
     make(&c);
 }
 
@@ -312,9 +323,9 @@ static void ask(void)
 static void list(void)
 {
     struct call c = blank(LIST);
-    uint32_t need = (uint32_t)HADULMIR_RECORD_SIZE * (image[HADULMIR_COUNT_AT] % (HADULMIR_EVENTS_AT_MOST + 1));
+    uint32_t need = HADULMIR_RECORD_SIZE * held(), entries = HADULMIR_ENTRY_SIZE * held();
 
-    c.room = once_in(2) ? HADULMIR_RECORDS_SIZE : once_in(2) ? need : need > 0 && once_in(2) ? need - 1 : below(LENT + 1);
+    c.room = once_in(2) ? HADULMIR_RECORDS_SIZE : once_in(2) ? need : need > 0 && once_in(2) ? need - 1 - below(need - entries) : below(LENT + 1);
     make(&c);
 }
 
@@ -420,6 +431,8 @@ int main(void)
     say("held by an event", held_by_event);
     say("by a default", by_default);
     say("by nobody", by_nobody);
+    say("listed, may begin before its start", earlier);
+    say("listed, may begin after its start", later);
     if (none)
         printf("random: something never came\n");
     printf("random: %lu calls, digest %08lx%08lx\n", (unsigned long)calls, (unsigned long)(digest >> 32), (unsigned long)(digest & 0xFFFFFFFFu));

@@ -2,34 +2,33 @@
 use mathlib.Core.Path.{_≡_, refl, sym, ap, _∙_}
 use Prim.Native.Nat.{ℕ, _*_, _/_, _<_, _≤_}
 use mathlib.Core.Bool.{Bool, true, false, cond, not}
-use mathlib.Core.List.{List, [], _∷_, _++_, append-nil, map}
+use mathlib.Core.List.{List, [], _∷_}
 use native.Mathlib.Omega.{arith}
-use borrow.Author.Tests.{eqb-true, not-false, lt-ltb, le-ltb}
+use borrow.Author.Tests.{eqb-true, not-false, lt-ltb, le-ltb, leb-true, leb-false, le-leb}
 use denote.Enum.Declared.{tagOf}
 use types.Run.{OneOf, miss}
-use lib.Dec.{ltb, eqb}
-use lib.ListN.{length, take, drop, replicate, length-replicate, take-append-drop}
-use lib.Seq.{take-at, length-take-le}
+use lib.Dec.{leb, ltb, eqb}
+use lib.ListN.{length, take, drop, replicate, length-replicate}
+use lib.Seq.{take-at}
 use Rattle.rules.specs.declared.Answer.{Answer}
 use Rattle.rules.specs.declared.Answer.the-variants.{Refused, Code, Count, Holder, Default, Nobody}
 use Rattle.rules.specs.declared.Id.{Id}
-use Rattle.rules.specs.declared.Entry.{Entry}
 use Rattle.rules.specs.declared.Record.{Record}
 use Rattle.rules.specs.declared.Schedule.{Schedule}
 use Rattle.rules.specs.Lists.{over}
-use Rattle.rules.specs.Records.{idSize, idNumber, noEntry, view}
-use Rattle.rules.specs.Sound.{whole, sound}
-use Rattle.rules.specs.Bytes.{big, flat, entrySize, entryBytes}
-use Rattle.rules.specs.Image.{entriesAt, image}
+use Rattle.rules.specs.Records.{mostEvents, idSize, idNumber, noEntry, view}
+use Rattle.rules.specs.Sound.{sound}
+use Rattle.rules.specs.Bytes.{big, flat, recordSize, recordBytes}
+use Rattle.rules.specs.Image.{image}
 use Rattle.rules.specs.Calls.{ask, Outcome, count, holder, numberOf, valueOf, recordOf, does, refusal, accepts, accepted, refused, call}
-use Rattle.rules.specs.Face.{Operation, asks, lists, asCall, answerBytes, idTooLong, shown, negative, lentAfter, face}
+use Rattle.rules.specs.Face.{Operation, asks, lists, asCall, answerBytes, idTooLong, shown, negative, lentAfter, FaceOutcome, face}
 use Rattle.rules.proofs.Answer.{the-type}
-use Rattle.rules.proofs.Tests.{each-true, first-not}
-use Rattle.rules.proofs.Numbers.{Bytes, big-length, flat-length, flat-append}
-use Rattle.rules.proofs.Entries.{entry-size}
-use Rattle.rules.proofs.Images.{image-loaded, at-entries}
+use Rattle.rules.proofs.Tests.{first-not}
+use Rattle.rules.proofs.Numbers.{Bytes, big-length}
+use Rattle.rules.proofs.Images.{image-loaded}
 use Rattle.rules.proofs.SoundState.{rules, pad-view}
 use Rattle.image.specs.declared.Loaded.{Loaded}
+use Rattle.image.specs.Exchange.{listedTo}
 use Rattle.octets.specs.Octets.{putAt}
 use Rattle.octets.proofs.Fits.{put-inside}
 use Rattle.calls.specs.declared.Answered.{Answered}
@@ -113,36 +112,37 @@ module _ {l : List ℕ} {b : Loaded} (f : Formed l b) (c : ℕ) (lent : List ℕ
 
 -- List.
 
-flat-records : (hs : List Entry) → flat (λ (r : Record). entryBytes (r .entry)) (map recordOf hs) ≡ flat entryBytes hs
-unfolding flat
-flat-records [] = refl
-flat-records (h ∷ hs) = ap (_++_ (entryBytes h)) (flat-records hs)
+module _ {l : List ℕ} {b : Loaded} (f : Formed l b) (bytes : Bytes l) (lent : List ℕ) (e : sound (b .schedule) ≡ true) where
+  abbrev n : ℕ
+  n = b .schedule .count
 
--- the held events stand in an image behind clock, count and programs
-held-bytes : (s : Schedule) → sound s ≡ true → take (entrySize * s .count) (drop entriesAt (image s)) ≡ flat entryBytes (view s .entries)
-unfolding sound
-held-bytes s e =
-    let hs = view s .entries in
-    let rest = drop (s .count) (s .entries) in
-    let size = flat-length entryBytes entrySize entry-size hs ∙ ap (_*_ entrySize) (length-take-le (s .count) (s .entries) (omega (arith, rules s e .full, rules s e .count))) in
-    let all = ap (flat entryBytes) (sym (take-append-drop (s .count) (s .entries))) ∙ flat-append entryBytes hs rest in
-    ap (take (entrySize * s .count)) (at-entries s (each-true (whole s) _ e .0) ∙ append-nil (flat entryBytes (s .entries)) ∙ all)
-    ∙ take-at (flat entryBytes hs) (flat entryBytes rest) (entrySize * s .count) size
+  -- the places of a lent list that its bytes have room for
+  abbrev old : List Record
+  old = replicate (length lent / recordSize) (recordOf noEntry)
 
-module _ {l : List ℕ} {b : Loaded} (f : Formed l b) (lent : List ℕ) (e : sound (b .schedule) ≡ true) where
-  pub listed-short : length lent < entrySize * b .schedule .count → {r : ℕ} → r ≡ negative 13 → faceOf r l lent ≡ face l lists lent
-  listed-short h p =
-      ap (λ (r : ℕ). faceOf r l lent) p
-      ∙ sym (face-is f lists lent (lists-short (b .schedule) e (length lent / entrySize) (omega (arith, h)) .leaves _ (length-replicate (length lent / entrySize) (recordOf noEntry))) (none-fits lent))
+  short : length lent < recordSize * n → faceOf (negative 13) l lent ≡ face l lists lent
+  short h =
+      sym (face-is f lists lent (lists-short (b .schedule) e (length lent / recordSize) (omega (arith, h)) .leaves old (length-replicate (length lent / recordSize) (recordOf noEntry))) (none-fits lent))
 
-  pub listed-all : Bytes l → entrySize * b .schedule .count ≤ length lent → {m : List ℕ} → m ≡ over (take (entrySize * b .schedule .count) (drop entriesAt l)) lent
-      → faceOf (b .schedule .count) l m ≡ face l lists lent
-  listed-all bytes h p =
-      let s = b .schedule in
-      let k = length lent / entrySize in
-      let old = replicate k (recordOf noEntry) in
-      let q = lists-all s e k (omega (arith, h)) .leaves old (length-replicate k (recordOf noEntry)) in
-      let front : (r : List Record) → take (s .count) (over (held s) r) ≡ held s = λ r. take-at (held s) (drop (length (held s)) r) (s .count) (held-count s e) in
-      let written = ap (λ (r : List Record). flat (λ (r : Record). entryBytes (r .entry)) (take (s .count) (over r old))) (front noRecords) ∙ ap (flat (λ (r : Record). entryBytes (r .entry))) (front old) ∙ flat-records (view s .entries) in
-      let copied = ap (λ (i : List ℕ). take (entrySize * s .count) (drop entriesAt i)) (sym (is-image f bytes)) ∙ held-bytes s e in
-      ap (faceOf (s .count) l) (p ∙ ap (λ (x : List ℕ). over x lent) (copied ∙ sym written)) ∙ sym (shows f bytes lists lent q refl refl (none-fits lent))
+  fits : recordSize * n ≤ length lent → faceOf n l (over (flat recordBytes (held (b .schedule))) lent) ≡ face l lists lent
+  fits h =
+      let hs = held (b .schedule) in
+      let q = lists-all (b .schedule) e (length lent / recordSize) (omega (arith, h)) .leaves old (length-replicate (length lent / recordSize) (recordOf noEntry)) in
+      let front : (r : List Record) → take n (over hs r) ≡ hs = λ r. take-at hs (drop (length hs) r) n (held-count (b .schedule) e) in
+      let written = ap (λ (r : List Record). take n (over r old)) (front noRecords) ∙ front old in
+      ap (λ (r : List Record). faceOf n l (over (flat recordBytes r) lent)) (sym written) ∙ sym (shows f bytes lists lent q refl refl (none-fits lent))
+
+  -- what was written, and whether it was: a sound schedule has no more events than places, so only the room counts
+  pub listed : {w : Bool} {m : List ℕ} → (w, m) ≡ listedTo (b .schedule) lent → {t : Bool} → w ≡ t → {r : ℕ} → r ≡ cond t n (negative 13) → faceOf r l m ≡ face l lists lent
+  unfolding listedTo
+  listed {w} {m} q e₁ e₂ =
+      ap (λ (r : ℕ). faceOf r l m) (e₂ ∙ ap (λ (t : Bool). cond t n (negative 13)) (sym e₁))
+      ∙ ap shown-as (rw (le-leb n mostEvents (rules (b .schedule) e .count)) at q) ∙ by (leb (recordSize * n) (length lent)) refl
+    where
+      shown-as : Bool × List ℕ → FaceOutcome
+      shown-as x = faceOf (cond (x .0) n (negative 13)) l (x .1)
+
+      by : (t : Bool) → leb (recordSize * n) (length lent) ≡ t
+          → shown-as (cond {A = Bool × List ℕ} t (true, over (flat recordBytes (held (b .schedule))) lent) (false, lent)) ≡ face l lists lent
+      by true h = fits (leb-true (recordSize * n) (length lent) h)
+      by false h = short (leb-false (recordSize * n) (length lent) h)

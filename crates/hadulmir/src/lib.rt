@@ -1,6 +1,6 @@
 // The C face: every operation on an image as bytes. It answers, and leaves the image, as the same call by value does: it loads the image, makes the call
-// and stores what the call left. A question stores nothing, since an accepted image is that of its schedule; a listing is read off the accepted image, and
-// makes no call. A number that is returned is an answer, or the two's complement of a refusal's negative; a refused operation leaves every byte.
+// and stores what the call left. A question stores nothing, since an accepted image is that of its schedule; a listing checks the schedule and writes its
+// records, and makes no call. A number that is returned is an answer, or the two's complement of a refusal's negative; a refused operation leaves every byte.
 ghost use mathlib.Core.Path.{_≡_};
 ghost use mathlib.Core.List.{[]};
 ghost use Rattle.rules.specs.Records.{eventOf};
@@ -10,7 +10,6 @@ ghost use Rattle.hadulmir.specs.Outcomes.{loadOutcome, storeOutcome, fac
 mod answers;
 
 use rules::Answer;
-use rules::Entry;
 use rules::Event;
 use rules::Id;
 use rules::Schedule;
@@ -173,7 +172,7 @@ pub extern "C" fn hadulmir_ask(image: &[u8], control: u8, id: &mut [u8]) -> u32
     1
 }
 
-// Calls, list. The bytes of each held event go over the front of `records`, as they stand in an accepted image.
+// Calls, list. The record of each held event goes over the front of `records`.
 #[no_mangle]
 pub extern "C" fn hadulmir_list(image: &[u8], records: &mut [u8]) -> u32
     ensures { λ r. ⌜ faceOf r (now (image .exit)) (now (records .exit)) ≡ face (now (image .entry)) lists (now (records .entry)) ⌝ }
@@ -186,11 +185,8 @@ pub extern "C" fn hadulmir_list(image: &[u8], records: &mut [u8]) -> u32
     if !sound::is_sound(s) {
         return answers::negative(2);
     }
-    let n = s.count;
-    let size = Entry::SIZE * n;
-    if records.len() < size {
+    if !image::write_records(s, records) {
         return answers::negative(13);
     }
-    octets::copy(records, &image[Schedule::ENTRIES_AT..], size);
-    n as u32
+    s.count as u32
 }

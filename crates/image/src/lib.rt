@@ -1,6 +1,6 @@
 // The image of a schedule, read and written whatever it says: whether the schedule is sound is for the calls to check.
 ghost use mathlib.Core.Path.{_≡_};
-ghost use Rattle.image.specs.Exchange.{noImage, readOf, writtenTo};
+ghost use Rattle.image.specs.Exchange.{noImage, readOf, writtenTo, listedTo};
 
 mod reading;
 mod writing;
@@ -8,6 +8,7 @@ mod writing;
 use rules::Entry;
 use rules::Event;
 use rules::Program;
+use rules::Record;
 use rules::Schedule;
 
 // Where the count of events stands in an image, and the mark of the first.
@@ -72,5 +73,25 @@ pub fn write(s: Schedule, out: &mut [u8]) -> bool
     octets::put(out, COUNT, 1, s.count as u64);
     writing::put_programs(out, programs);
     writing::put_entries(out, entries);
+    true
+}
+
+// Calls, list. Writes the record of each held event over the front of a buffer; leaves one that is shorter than all of them alone and returns false, also
+// for a count that no schedule has.
+pub fn write_records(s: Schedule, out: &mut [u8]) -> bool
+    ensures { λ r. ⌜ (r, now (out .exit)) ≡ listedTo s (now (out .entry)) ⌝ }
+{
+    let n = s.count;
+    if Schedule::EVENTS < n {
+        return false;
+    }
+    if out.len() < Record::SIZE * n {
+        return false;
+    }
+    let mut i = 0;
+    while i < n {
+        writing::put_record(out, Record::SIZE * i, Record::of(s.entries[i]));
+        i += 1;
+    }
     true
 }

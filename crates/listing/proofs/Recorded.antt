@@ -36,9 +36,9 @@ module _ (s : Schedule) where
 
     -- one record more
     pub recorded-more : (i : ℕ) (d : Entry) → i < s .count → {b : List Record} → b ≡ take i held ++ drop i noRecords
-        → set b i (recordOf (getD (s .entries) i d)) ≡ take (i + 1) held ++ drop (i + 1) noRecords
-    recorded-more i d l q =
-        ap₂ (λ b r. set b i r) q (sym (List·getD-map recordOf (view s .entries) i d ∙ ap recordOf (getD-take (s .count) (s .entries) i d l)))
+        → {r : Record} → r ≡ recordOf (getD (s .entries) i d) → set b i r ≡ take (i + 1) held ++ drop (i + 1) noRecords
+    recorded-more i d l q p =
+        ap₂ (λ b r. set b i r) q (p ∙ sym (List·getD-map recordOf (view s .entries) i d ∙ ap recordOf (getD-take (s .count) (s .entries) i d l)))
         ∙ copied-more (recordOf d) noRecords held i (omega (arith, rules s e .count)) (omega (arith, held-count))
 
     pub recorded-all : take (s .count) held ++ drop (s .count) noRecords ≡ over held noRecords

@@ -23,8 +23,7 @@ pub(crate) struct Gathered {
 fn no_records() -> [Record; Schedule::EVENTS]
     ensures { λ r. ⌜ r ≡ noRecords ⌝ }
 {
-    let entry = Entry::none();
-    let record = Record { entry };
+    let record = Record::of(Entry::none());
     [record; Schedule::EVENTS]
 }
 
@@ -37,8 +36,7 @@ fn records_of(s: Schedule) -> [Record; Schedule::EVENTS]
     let mut records = no_records();
     let mut i = 0;
     while i < n {
-        let entry = s.entries[i];
-        records[i] = Record { entry };
+        records[i] = Record::of(s.entries[i]);
         i += 1;
     }
     records

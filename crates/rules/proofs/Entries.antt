@@ -9,8 +9,9 @@ use lib.Dec.{eqb}
 use lib.ListN.{length, drop}
 use Rattle.rules.specs.declared.Event.{Event}
 use Rattle.rules.specs.declared.Entry.{Entry}
+use Rattle.rules.specs.declared.Record.{Record}
 use Rattle.rules.specs.Records.{idSize, idLimit, idOf, noEvent, noEntry}
-use Rattle.rules.specs.Bytes.{big, read, eventAt, eventBytes, entryAt, entryBytes, flag, eventSize, entrySize, markAt}
+use Rattle.rules.specs.Bytes.{big, read, eventAt, eventBytes, entryAt, entryBytes, recordBytes, flag, eventSize, entrySize, markAt, recordSize}
 use Rattle.rules.proofs.IdLaws.{number-id, zero-id, id-number}
 use Rattle.rules.proofs.Numbers.{Bytes, read-below, read-big, read-drop, piece, Inverse}
 
@@ -39,6 +40,10 @@ none-fits = let zero : idOf noEvent ≡ 0 = zero-id in search needs
 pub entry-size : (h : Entry) → length (entryBytes h) ≡ entrySize
 unfolding entryBytes eventBytes big
 entry-size h = refl
+
+pub record-size : (r : Record) → length (recordBytes r) ≡ recordSize
+unfolding recordBytes entryBytes eventBytes big
+record-size r = refl
 
 -- an event's bytes are that event, whatever follows
 pub event-of-bytes : (e : Event) → FitsEvent e → (r : List ℕ) → eventAt 0 (eventBytes e ++ r) ≡ e

@@ -6,7 +6,7 @@ use mathlib.Core.List.{List, [], _∷_}
 use lib.Dec.{eqb}
 use borrow.Author.Tests.{eqb-true, eq-eqb}
 use Rattle.rules.specs.Records.{idNumber, idFrom, usable, has, cut, join, fresh, pad}
-use Rattle.rules.specs.Period.{drawnStart, effectiveEnd, effectiveStart}
+use Rattle.rules.specs.Period.{drawnStart, effectiveEnd, effectiveStart, earliestStart}
 use Rattle.rules.specs.Holding.{key, better, claim, taken, heldAt, holdingAt}
 use Rattle.rules.specs.Rows.{codeAt, rowsWith, rowsFrom, rowsAt}
 use Rattle.rules.specs.Moments.{entriesFrom, second, advance}
@@ -26,7 +26,7 @@ use Rattle.rules.proofs.Jump.{jumps, nextMoment, idleFor}
 use Rattle.rules.proofs.Quick.{quickChecks, quickDoes, quickCall, quickReplies, quick-replies, quickTellFrame, quickTellAll, quick-tell}
 
 table-evaluates : allHold (quickReplies fresh) table ≡ true
-unfolding allHold caseHolds table quickReplies quickCall quickChecks quickDoes jumps nextMoment idleFor advance second entriesFrom rowsAt rowsFrom rowsWith codeAt holdingAt heldAt taken claim better key drawnStart effectiveEnd effectiveStart usable has cut join big flat rowBytes outOfRange malformed sameEvent find late programChecks eventChecks cancelChecks clockChecks askChecks listChecks bestDefault holderIn answerFor does checks idNumber idFrom
+unfolding allHold caseHolds table quickReplies quickCall quickChecks quickDoes jumps nextMoment idleFor advance second entriesFrom rowsAt rowsFrom rowsWith codeAt holdingAt heldAt taken claim better key drawnStart effectiveEnd effectiveStart earliestStart usable has cut join big flat rowBytes outOfRange malformed sameEvent find late programChecks eventChecks cancelChecks clockChecks askChecks listChecks bestDefault holderIn answerFor does checks idNumber idFrom
 table-evaluates = refl
 
 pub bench-marks : allHold (replies (pad fresh)) table ≡ true

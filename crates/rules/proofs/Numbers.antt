@@ -3,7 +3,7 @@ use mathlib.Core.Path.{_≡_, refl, sym, ap, ap₂, _∙_}
 use mathlib.Core.Logic.{inl, inr}
 use mathlib.Core.Bool.{true, and-eq-true-iff}
 use Prim.Native.Nat.{ℕ, zero, suc, _+_, _*_, _/_, _%_, _^_, _<_, _≤_}
-use mathlib.Core.List.{List, [], _∷_, _++_, append-assoc}
+use mathlib.Core.List.{List, [], _∷_, _++_, append-assoc, map}
 use native.Mathlib.Omega.{arith}
 use native.Mathlib.Nat.{pow-suc, pow-succ', mul-suc}
 use borrow.Author.Tests.{leb-true, le-leb}
@@ -78,6 +78,12 @@ pub flat-append : {A : Type 0} (put : A → List ℕ) (xs ys : List A) → flat 
 unfolding flat
 flat-append put [] ys = refl
 flat-append put (x ∷ xs) ys = rw (flat-append put xs ys) (sym (append-assoc (put x) (flat put xs) (flat put ys)))
+
+-- things that are made of others
+pub flat-map : {A B : Type 0} (put : B → List ℕ) (f : A → B) (xs : List A) → flat put (map f xs) ≡ flat (λ x. put (f x)) xs
+unfolding flat
+flat-map put f [] = refl
+flat-map put f (x ∷ xs) = ap (_++_ (put (f x))) (flat-map put f xs)
 
 -- the last of n + 1 things
 pub many-last : {A : Type 0} (f : ℕ → List ℕ → A) (k : ℕ) (l : List ℕ) (n at : ℕ) → many f k (suc n) at l ≡ many f k n at l ++ (f (at + k * n) l ∷ [])

@@ -4,7 +4,7 @@ use Prim.Native.Nat.{ℕ}
 use mathlib.Core.Bool.{true}
 use mathlib.Core.List.{List}
 use Rattle.rules.specs.Records.{idNumber, idFrom, usable, has, cut, join, fresh}
-use Rattle.rules.specs.Period.{drawnStart, effectiveEnd, effectiveStart}
+use Rattle.rules.specs.Period.{drawnStart, effectiveEnd, effectiveStart, earliestStart}
 use Rattle.rules.specs.Holding.{key, better, claim, taken, heldAt, holdingAt}
 use Rattle.rules.specs.Rows.{codeAt, rowsWith, rowsFrom, rowsAt}
 use Rattle.rules.specs.Moments.{entriesFrom, second, advance}
@@ -34,7 +34,7 @@ unfolding linesHold lineTable digit paired unhex isFrame frameOf lineOf read eve
 lines-evaluate = refl
 
 calls-evaluate : scriptsHold (quickReplies fresh) callTable ≡ true
-unfolding scriptsHold callTable quickReplies quickCall quickChecks quickDoes jumps nextMoment idleFor advance second entriesFrom rowsAt rowsFrom rowsWith codeAt holdingAt heldAt taken claim better key drawnStart effectiveEnd effectiveStart usable has cut join big flat rowBytes outOfRange malformed sameEvent find late programChecks eventChecks cancelChecks clockChecks askChecks listChecks bestDefault holderIn answerFor does checks idNumber idFrom
+unfolding scriptsHold callTable quickReplies quickCall quickChecks quickDoes jumps nextMoment idleFor advance second entriesFrom rowsAt rowsFrom rowsWith codeAt holdingAt heldAt taken claim better key drawnStart effectiveEnd effectiveStart earliestStart usable has cut join big flat rowBytes outOfRange malformed sameEvent find late programChecks eventChecks cancelChecks clockChecks askChecks listChecks bestDefault holderIn answerFor does checks idNumber idFrom
 calls-evaluate = refl
 
 answers-evaluate : answersHold ≡ true

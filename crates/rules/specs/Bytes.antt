@@ -7,6 +7,7 @@ use lib.ListN.{getD}
 use Rattle.rules.specs.declared.Id.{Id}
 use Rattle.rules.specs.declared.Event.{Event}
 use Rattle.rules.specs.declared.Entry.{Entry}
+use Rattle.rules.specs.declared.Record.{Record}
 use Rattle.rules.specs.Records.{idSize, idFrom, idOf, eventOf, mostRows}
 use Rattle.rules.specs.Rows.{Row}
 
@@ -82,3 +83,10 @@ entryBytes h = eventBytes (h .event) ++ (big 8 (h .begins) ++ (big 4 (h .held) +
 unfoldable pub entryAt : ℕ → List ℕ → Entry
 entryAt at l =
     record { event = eventAt at l; begins = read 8 (at + eventSize) l; held = read 4 (at + (eventSize + 8)) l; cancelled = flagAt (at + markAt) l }
+
+-- Frames and image, C hosts, a listed record, and document 02, #101: the entry, and behind it the earliest start; how many bytes they are
+abbrev pub recordSize : ℕ
+recordSize = entrySize + 8
+
+unfoldable pub recordBytes : Record → List ℕ
+recordBytes r = entryBytes (r .entry) ++ big 8 (r .earliest)

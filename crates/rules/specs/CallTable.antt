@@ -10,10 +10,10 @@ use Rattle.rules.specs.declared.Primacy.{Primacy}
 use Rattle.rules.specs.declared.Primacy.the-variants.{Usable, Reserved}
 use Rattle.rules.specs.declared.Answer.{Answer}
 use Rattle.rules.specs.declared.Answer.the-variants.{Refused, Code, Count, Holder, Default, Nobody}
-use Rattle.rules.specs.Records.{primacyIs, fresh, pad, idFrom}
+use Rattle.rules.specs.Records.{primacyIs, fresh, pad, idFrom, eventOf}
 use Rattle.rules.specs.Calls.{addProgram, deliver, cancel, setClock, ask, list, nothing, code, count, holder, default, nobody, numberOf, valueOf, counted}
 use Rattle.rules.specs.Script.{valueNumbers, Step, scriptsHold, _answers_, _refused_}
-use Rattle.rules.specs.Marks.{undrawn, same, replies}
+use Rattle.rules.specs.Marks.{minus, undrawn, same, replies}
 
 -- a row's bytes, of a time below 65,536 and an id below 256
 abbrev row : ℕ → ℕ → ℕ → List ℕ
@@ -23,13 +23,13 @@ row t i k = 0 ∷ 0 ∷ 0 ∷ 0 ∷ 0 ∷ 0 ∷ t / 256 ∷ t % 256 ∷ 0 ∷ 0 
 abbrev reads : ℕ → ℕ → ℕ → List ℕ → ℕ → Step
 reads t room n rows rest = record { call = setClock t (replicate room 77); number = 0; value = count n; bytes = rows ++ replicate rest 77; records = [] }
 
--- a held event: its effective start, held mask, cancelled mark
-abbrev listedAs : Event → ℕ → ℕ → Bool → Record
-listedAs e begins mask gone = record { entry = record { event = e; begins = begins; held = mask; cancelled = gone } }
+-- a listed event: its effective start, held mask, cancelled mark, and the moment at which it might begin at the earliest
+abbrev listedAs : Event → ℕ → ℕ → Bool → ℕ → Record
+listedAs e begins mask gone earliest = record { entry = record { event = e; begins = begins; held = mask; cancelled = gone }; earliest = earliest }
 
 -- a place of a lent list before it is written to
 abbrev place : Record
-place = listedAs (undrawn 99 9 99 99 99 99) 99 99 true
+place = listedAs (undrawn 99 9 99 99 99 99) 99 99 true 99
 
 -- a listing into `room` places: how many records, and how many places stay as they were
 abbrev listing : ℕ → ℕ → List Record → ℕ → Step
@@ -57,12 +57,12 @@ codes =
     ∷ reads 5000 0 0 [] 0
     ∷ (cancel 2 answers code 0)
     ∷ reads 5050 18 1 (row 5050 1 2) 1
-    ∷ listing 3 2 (listedAs narrow 5050 1 false ∷ listedAs wide 5000 0 true ∷ []) 1
+    ∷ listing 3 2 (listedAs narrow 5050 1 false 5050 ∷ listedAs wide 5000 0 true 5000 ∷ []) 1
     ∷ (cancel 1 answers code 6)
-    ∷ listing 2 2 (listedAs narrow 5050 0 true ∷ listedAs wide 5000 0 true ∷ []) 0
+    ∷ listing 2 2 (listedAs narrow 5050 0 true 5050 ∷ listedAs wide 5000 0 true 5000 ∷ []) 0
     ∷ (list (place ∷ []) refused 13)
     ∷ reads 5100 1 0 [] 1
-    ∷ listing 1 1 (listedAs narrow 5050 0 true ∷ []) 0
+    ∷ listing 1 1 (listedAs narrow 5050 0 true 5050 ∷ []) 0
     ∷ (cancel 2 refused 11)
     ∷ []
 
@@ -79,11 +79,11 @@ holders =
     ∷ reads 5049 17 1 (row 5000 2 2) 0
     ∷ (ask 0 answers holder 2)
     ∷ (ask 1 answers holder 2)
-    ∷ listing 4 2 (listedAs narrow 5050 0 false ∷ listedAs wide 5000 3 false ∷ []) 2
+    ∷ listing 4 2 (listedAs narrow 5050 0 false 5050 ∷ listedAs wide 5000 3 false 5000 ∷ []) 2
     ∷ reads 5050 20 1 (row 5050 1 2) 3
     ∷ (ask 0 answers holder 1)
     ∷ (ask 1 answers holder 2)
-    ∷ listing 2 2 (listedAs narrow 5050 1 false ∷ listedAs wide 5000 2 false ∷ []) 0
+    ∷ listing 2 2 (listedAs narrow 5050 1 false 5050 ∷ listedAs wide 5000 2 false 5000 ∷ []) 0
     ∷ (setClock 5150 (replicate 33 77) refused 13)
     ∷ reads 5150 34 2 (row 5100 2 3 ++ row 5150 1 3) 0
     ∷ (ask 0 answers default 1)
@@ -140,7 +140,7 @@ cancelledOne =
     ∷ (ask 0 answers default 0)
     ∷ reads 5001 17 1 (row 5001 7 2) 0
     ∷ (ask 0 answers holder 7)
-    ∷ listing 3 3 (listedAs (undrawn 7 0 1 0 5001 100) 5001 1 false ∷ listedAs (undrawn 8 0 1 0 5000 100) 5000 0 false ∷ listedAs (undrawn 9 0 1 0 5000 100) 5000 0 true ∷ []) 0
+    ∷ listing 3 3 (listedAs (undrawn 7 0 1 0 5001 100) 5001 1 false 5001 ∷ listedAs (undrawn 8 0 1 0 5000 100) 5000 0 false 5000 ∷ listedAs (undrawn 9 0 1 0 5000 100) 5000 0 true 5000 ∷ []) 0
     ∷ reads 5200 17 1 (row 5101 7 3) 0
     ∷ []
 
@@ -150,17 +150,45 @@ afterStart =
     (addProgram 0 0 0 answers code 0)
     ∷ reads 5050 0 0 [] 0
     ∷ (deliver (undrawn 3 0 1 0 5000 100) answers code 1)
-    ∷ listing 1 1 (listedAs (undrawn 3 0 1 0 5000 100) 5051 0 false ∷ []) 0
+    ∷ listing 1 1 (listedAs (undrawn 3 0 1 0 5000 100) 5051 0 false 5000 ∷ []) 0
     ∷ (ask 0 answers nobody)
     ∷ reads 5051 17 1 (row 5051 3 2) 0
     ∷ (ask 0 answers holder 3)
     ∷ (cancel 3 answers code 6)
-    ∷ listing 1 1 (listedAs (undrawn 3 0 1 0 5000 100) 5051 0 true ∷ []) 0
+    ∷ listing 1 1 (listedAs (undrawn 3 0 1 0 5000 100) 5051 0 true 5000 ∷ []) 0
     ∷ reads 5100 0 0 [] 0
     ∷ []
 
+-- an event on a control of its own, from 5000 for 300 seconds, with a randomizeStart and a start draw
+abbrev randomised : ℕ → ℕ → ℕ → ℕ → Event
+randomised i controls randomisation draw = eventOf i 0 controls 0 5000 300 randomisation 0 draw 0
+
+abbrev back : Event
+back = randomised 1 1 (minus 200) (minus 50)
+
+abbrev later : Event
+later = randomised 2 2 200 150
+
+abbrev undelayed : Event
+undelayed = randomised 3 4 (minus 60) 0
+
+-- document 02, #101: the earliest start is listed beside each event, and neither draw, receipt, start, cancellation nor time moves it
+abbrev atTheEarliest : List Step
+atTheEarliest =
+    (addProgram 0 0 0 answers code 0)
+    ∷ (deliver later answers code 1)
+    ∷ (deliver back answers code 1)
+    ∷ listing 3 2 (listedAs back 4950 0 false 4800 ∷ listedAs later 5150 0 false 5000 ∷ []) 1
+    ∷ reads 5160 34 2 (row 4950 1 2 ++ row 5150 2 2) 0
+    ∷ (deliver undelayed answers code 1)
+    ∷ (cancel 1 answers code 6)
+    ∷ listing 3 3 (listedAs back 4950 0 true 4800 ∷ listedAs later 5150 2 false 5000 ∷ listedAs undelayed 5161 0 false 4940 ∷ []) 0
+    ∷ reads 5250 17 1 (row 5161 3 2) 0
+    ∷ listing 2 2 (listedAs later 5150 2 false 5000 ∷ listedAs undelayed 5161 4 false 4940 ∷ []) 0
+    ∷ []
+
 unfoldable pub callTable : List (List Step)
-callTable = codes ∷ holders ∷ defaultsOf ∷ moment ∷ cancelledOne ∷ afterStart ∷ []
+callTable = codes ∷ holders ∷ defaultsOf ∷ moment ∷ cancelledOne ∷ afterStart ∷ atTheEarliest ∷ []
 
 -- the number and the value of each answer
 abbrev answerNumbers : Answer → List ℕ

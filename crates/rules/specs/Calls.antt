@@ -14,7 +14,7 @@ use Rattle.rules.specs.declared.Answer.{Answer}
 use Rattle.rules.specs.declared.Answer.the-variants.{Refused, Code, Count, Holder, Default, Nobody}
 use Rattle.rules.specs.Lists.{insert, over}
 use Rattle.rules.specs.Records.{State, idNumber, idOf, has, view, pad}
-use Rattle.rules.specs.Period.{periodOf}
+use Rattle.rules.specs.Period.{earliestStart, periodOf}
 use Rattle.rules.specs.Bytes.{rowSize, bytes}
 use Rattle.rules.specs.Moments.{Moved, passed}
 use Rattle.rules.specs.Sound.{sound}
@@ -178,9 +178,9 @@ answerFor s c = holderIn c (s .entries) (defaultFor (bestDefault c 0 (s .program
 
 -- Calls, list
 
--- what a listing gives for a held event
+-- what a listing gives for a held event; document 02, #101: with its earliest start
 abbrev pub recordOf : Entry → Record
-recordOf h = record { entry = h }
+recordOf h = record { entry = h; earliest = earliestStart (h .event) }
 
 -- Calls, what each does once no number refuses it; of those that are lent nothing, the state and the answer
 

@@ -1,8 +1,8 @@
--- Document 01's sentences on holding, rows and states, said of the definitions. Each field is one clause; all are proved (promise `clauses`).
+-- Document 01's sentences on holding, rows and states, and document 02's, said of the definitions. Each field is one clause; all are proved (promise `clauses`).
 -- `ps` are the programs, `ts` all events of a history, and Holds t c x says that the event x holds the control c at moment t.
 use mathlib.Core.Path.{_≡_}
 use mathlib.Core.Logic.{_↔_, _⊎_}
-use Prim.Native.Nat.{ℕ, zero, suc, _+_, _*_, _<_, _≤_}
+use Prim.Native.Nat.{ℕ, zero, suc, _+_, _*_, _<_, _≤_, min}
 use mathlib.Core.Bool.{Bool, true, false, cond, _||_}
 use mathlib.Core.List.{List, [], _∷_, _++_}
 use mathlib.Core.Option.{none, some}
@@ -16,18 +16,61 @@ use Rattle.rules.specs.declared.Record.{Record}
 use Rattle.rules.specs.declared.Schedule.{Schedule}
 use Rattle.rules.specs.Lists.{In, All, Pairwise}
 use Rattle.rules.specs.Records.{State, idOf, has, lastClock, mostEvents, mostRows, programAt, fresh, view, pad}
-use Rattle.rules.specs.Period.{effectiveEnd}
+use Rattle.rules.specs.Period.{lift, drawnStart, effectiveEnd, earliestStart, periodOf}
 use Rattle.rules.specs.Holding.{Rank, rankOf, better, heldAt, Holding, endOf}
 use Rattle.rules.specs.Rows.{Row, codeAt, Sooner}
 use Rattle.rules.specs.Moments.{second, passed}
-use Rattle.rules.specs.Sound.{malformed, sound}
+use Rattle.rules.specs.Sound.{drawn, malformed, sound}
 use Rattle.rules.specs.Refusals.{late}
 use Rattle.rules.specs.Bytes.{rowSize}
-use Rattle.rules.specs.Calls.{Call, deliver, cancel, setClock, list, code, count, numberOf, valueOf, Ranked, bestDefault, lentBytes, lentList, call}
+use Rattle.rules.specs.Calls.{Call, deliver, cancel, setClock, list, code, count, numberOf, valueOf, entry, Ranked, bestDefault, recordOf, lentBytes, lentList, call}
 use Rattle.rules.specs.Image.{imageSize, image, loaded, imaged}
 use Rattle.rules.specs.Face.{Operation, asCall, idTooLong, shown, negative, lentAfter, face, faceFresh}
 use Rattle.rules.specs.Printed.{room}
 use Rattle.rules.specs.Schedules.{Timed, goneBy, holding, seen, rowsTo}
+
+-- Effective period, draw: the event with another start draw
+abbrev pub withDraw : Event → ℕ → Event
+withDraw e draw =
+    record {
+      id = e .id;
+      program = e .program;
+      controls = e .controls;
+      created = e .created;
+      start = e .start;
+      duration = e .duration;
+      «randomize_start» = e .«randomize_start»;
+      «randomize_duration» = e .«randomize_duration»;
+      «start_draw» = draw;
+      «duration_draw» = e .«duration_draw»;
+    }
+
+-- Effective period, draw: a start draw that the event's randomisation allows
+abbrev pub InRange : Event → ℕ → Type 0
+InRange e draw = drawn (e .«randomize_start») draw ≡ true
+
+-- the moment is the least of the drawn starts over all start draws in range
+pub record LeastStart (e : Event) (t : ℕ) : Type 0 where
+  -- not after any
+  pub not-after : (draw : ℕ) → InRange e draw → t ≤ drawnStart (withDraw e draw)
+  -- and reached by one
+  pub reached : (draw : ℕ) × InRange e draw × (drawnStart (withDraw e draw) ≡ t)
+
+-- Document 02, #101: Earliest Effective Start Time
+pub record EarliestClauses : Type 0 where
+  -- the moment at which the event might begin at the earliest, whatever is drawn
+  pub least : (e : Event) (t : ℕ) → t ≡ earliestStart e ↔ LeastStart e t
+  -- the lesser of start and start + randomizeStart; of an event that passes 7 nothing is cut off
+  pub exact : (e : Event) → malformed e ≡ false → earliestStart e + 32768 ≡ min (e .start + 32768) (e .start + lift (e .«randomize_start»))
+  -- the listing carries the third time of the period that was worked out at the receipt
+  pub carried : (e : Event) (receipt : ℕ) → recordOf (entry receipt e) .earliest ≡ periodOf e receipt .earliest
+  -- a late receipt does not move it
+  pub receipt : (e : Event) (r k : ℕ) → recordOf (entry r e) .earliest ≡ recordOf (entry k e) .earliest
+  -- nor does anything else that happens to the event
+  pub event : (h o : Entry) → h .event ≡ o .event → recordOf h .earliest ≡ recordOf o .earliest
+  -- it is not after the effective start
+  pub in-time : (e : Event) (receipt : ℕ) → malformed e ≡ false → periodOf e receipt .earliest ≤ periodOf e receipt .start
+  pub listed : (s : Schedule) (h : Entry) → sound s ≡ true → In h (view s .entries) → recordOf h .earliest ≤ h .begins
 
 -- the event holds the control at the moment
 abbrev pub Holds : List Program → List Timed → ℕ → ℕ → Timed → Type 0
@@ -237,6 +280,7 @@ pub record ImageKept (s : Schedule) : Type 0 where
   pub back : loaded (image s) ≡ s
 
 pub record Clauses : Type 0 where
+  pub earliest : EarliestClauses
   pub rank : RankClauses
   pub holding : (ps : List Program) (ts : List Timed) → HoldingClauses ps ts
   pub rows : (ps : List Program) (ts : List Timed) → RowClauses ps ts

@@ -7,7 +7,7 @@ use lib.ListN.{length, take, replicate}
 use Rattle.rules.specs.declared.Event.{Event}
 use Rattle.rules.specs.Lists.{over}
 use Rattle.rules.specs.Records.{idSize, noEntry, fresh, pad}
-use Rattle.rules.specs.Bytes.{big, flat, entrySize, entryBytes}
+use Rattle.rules.specs.Bytes.{big, flat, recordSize, recordBytes}
 use Rattle.rules.specs.Refusals.{_if_, firstOf}
 use Rattle.rules.specs.Calls.{Bare, program, event, cancellation, question, Call, bare, setClock, list, Governor, byEvent, byProgram, byNone, Value, nothing, code, count, governor, Outcome, recordOf, call, counted}
 use Rattle.rules.specs.Image.{imageSize, image, loaded, imaged}
@@ -34,7 +34,7 @@ asks control = makes (question control)
 abbrev pub asCall : Operation → List ℕ → Call
 asCall (makes c) lent = bare c
 asCall (setsClock t) lent = setClock t lent
-asCall lists lent = list (replicate (length lent / entrySize) (recordOf noEntry))
+asCall lists lent = list (replicate (length lent / recordSize) (recordOf noEntry))
 
 -- the bytes of the id in an answer, none where it has no id: only the answer to a question may have one
 abbrev pub holderBytes : Governor → List ℕ
@@ -76,7 +76,7 @@ negative n = 2 ^ 32 - n
 abbrev pub lentAfter : Operation → Outcome → List ℕ → List ℕ
 lentAfter (makes c) o lent = over (answerBytes (o .value)) lent
 lentAfter (setsClock t) o lent = o .bytes
-lentAfter lists o lent = over (flat (λ r. entryBytes (r .entry)) (take (counted (o .value)) (o .records))) lent
+lentAfter lists o lent = over (flat recordBytes (take (counted (o .value)) (o .records))) lent
 
 -- what an operation returns, and what its image and its lent bytes hold then
 pub record FaceOutcome : Type 0 where

@@ -11,7 +11,7 @@ use Rattle.rules.specs.Records.{fresh, pad, eventOf}
 use Rattle.rules.specs.Calls.{Call, addProgram, deliver, cancel, setClock, run}
 use Rattle.rules.specs.Image.{loaded, imaged}
 use Rattle.rules.specs.Face.{Operation, addsProgram, delivers, cancels, setsClock, asks, lists, FaceOutcome, face, faceFresh}
-use Rattle.rules.specs.Marks.{undrawn, same}
+use Rattle.rules.specs.Marks.{same}
 
 -- an operation after calls by value: what is lent to it, what it returns, what the lent bytes hold then
 pub record FaceCase : Type 0 where
@@ -26,24 +26,26 @@ pub record FaceHolds (c : FaceCase) : Type 0 where
   pub returned : (l : List ℕ) → imaged l ≡ true → loaded l ≡ run (pad fresh) (c .before) → face l (c .operation) (c .lent) .returned ≡ c .returned
   pub lent : (l : List ℕ) → imaged l ≡ true → loaded l ≡ run (pad fresh) (c .before) → face l (c .operation) (c .lent) .lent ≡ c .after
 
--- an event whose bytes can be told apart: from 5000 to 5100 on controls 0 and 1
+-- an event whose bytes can be told apart: from 5000 to 5100 on controls 0 and 1; its randomizeStart is -2, so that it might begin at 4998
 abbrev one : Event
-one = eventOf 0x0102030405060708 7 0x03 0x0A0B0C0D 5000 100 1 2 0 0
+one = eventOf 0x0102030405060708 7 0x03 0x0A0B0C0D 5000 100 0xFFFE 2 0 0
 
--- the same on control 2, under a larger id
+-- another on control 2, under a larger id: drawn from 6000 to 6005
 abbrev two : Event
-two = undrawn 0x1112131415161718 0 0x04 0 6000 100
+two = eventOf 0x1112131415161718 0 0x04 0 6000 100 5 0 5 0
 
--- their entries at 5000
+-- their records at 5000
 abbrev oneBytes : List ℕ
 oneBytes =
     1 ∷ 2 ∷ 3 ∷ 4 ∷ 5 ∷ 6 ∷ 7 ∷ 8 ∷ 7 ∷ 0 ∷ 0 ∷ 0 ∷ 3 ∷ 0x0A ∷ 0x0B ∷ 0x0C ∷ 0x0D ∷ 0 ∷ 0 ∷ 0x13 ∷ 0x88 ∷ 0 ∷ 0 ∷ 0 ∷ 100
-    ∷ 0 ∷ 1 ∷ 0 ∷ 2 ∷ 0 ∷ 0 ∷ 0 ∷ 0 ∷ 0 ∷ 0 ∷ 0 ∷ 0 ∷ 0 ∷ 0 ∷ 0x13 ∷ 0x88 ∷ 0 ∷ 0 ∷ 0 ∷ 3 ∷ 0 ∷ []
+    ∷ 0xFF ∷ 0xFE ∷ 0 ∷ 2 ∷ 0 ∷ 0 ∷ 0 ∷ 0 ∷ 0 ∷ 0 ∷ 0 ∷ 0 ∷ 0 ∷ 0 ∷ 0x13 ∷ 0x88 ∷ 0 ∷ 0 ∷ 0 ∷ 3 ∷ 0
+    ∷ 0 ∷ 0 ∷ 0 ∷ 0 ∷ 0 ∷ 0 ∷ 0x13 ∷ 0x86 ∷ []
 
 abbrev twoBytes : List ℕ
 twoBytes =
     0x11 ∷ 0x12 ∷ 0x13 ∷ 0x14 ∷ 0x15 ∷ 0x16 ∷ 0x17 ∷ 0x18 ∷ 0 ∷ 0 ∷ 0 ∷ 0 ∷ 4 ∷ 0 ∷ 0 ∷ 0 ∷ 0 ∷ 0 ∷ 0 ∷ 0x17 ∷ 0x70 ∷ 0 ∷ 0 ∷ 0 ∷ 100
-    ∷ 0 ∷ 0 ∷ 0 ∷ 0 ∷ 0 ∷ 0 ∷ 0 ∷ 0 ∷ 0 ∷ 0 ∷ 0 ∷ 0 ∷ 0 ∷ 0 ∷ 0x17 ∷ 0x70 ∷ 0 ∷ 0 ∷ 0 ∷ 0 ∷ 0 ∷ []
+    ∷ 0 ∷ 5 ∷ 0 ∷ 0 ∷ 0 ∷ 5 ∷ 0 ∷ 0 ∷ 0 ∷ 0 ∷ 0 ∷ 0 ∷ 0 ∷ 0 ∷ 0x17 ∷ 0x75 ∷ 0 ∷ 0 ∷ 0 ∷ 0 ∷ 0
+    ∷ 0 ∷ 0 ∷ 0 ∷ 0 ∷ 0 ∷ 0 ∷ 0x17 ∷ 0x70 ∷ []
 
 -- a row: time 5000, the id of `one`, code 2
 abbrev startRow : List ℕ
@@ -112,15 +114,16 @@ faceTable =
     ∷ leaves begun (asks 2) [] 0
     ∷ leaves begun (asks 31) (room 9) 0
     ∷ leaves begun (asks 32) [] (minus 14)
-    -- a listing: of nothing, of one record in 45, 46 and 47 bytes, of two in 91, 92 and 93
+    -- a listing: of nothing, of one record in 46, 53, 54 and 55 bytes, of two in 107, 108 and 109
     ∷ leaves programs lists [] 0
     ∷ leaves programs lists (room 3) 0
-    ∷ leaves begun lists (room 45) (minus 13)
-    ∷ case begun lists (room 46) 1 oneBytes
-    ∷ case begun lists (room 47) 1 (oneBytes ++ room 1)
-    ∷ leaves both lists (room 91) (minus 13)
-    ∷ case both lists (room 92) 2 (oneBytes ++ twoBytes)
-    ∷ case both lists (room 93) 2 (oneBytes ++ (twoBytes ++ room 1))
+    ∷ leaves begun lists (room 46) (minus 13)
+    ∷ leaves begun lists (room 53) (minus 13)
+    ∷ case begun lists (room 54) 1 oneBytes
+    ∷ case begun lists (room 55) 1 (oneBytes ++ room 1)
+    ∷ leaves both lists (room 107) (minus 13)
+    ∷ case both lists (room 108) 2 (oneBytes ++ twoBytes)
+    ∷ case both lists (room 109) 2 (oneBytes ++ (twoBytes ++ room 1))
     ∷ []
 
 -- Images that are none: the wrong length, a count of 49. Number 2 stands before every other, and nothing changes. And the fresh image, into 2,264, 2,265 and 2,266 bytes.

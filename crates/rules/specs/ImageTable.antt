@@ -12,7 +12,7 @@ use Rattle.rules.specs.declared.Schedule.{Schedule}
 use Rattle.rules.specs.Lists.{overAt}
 use Rattle.rules.specs.Records.{mostEvents, mostPrograms, lastProgram, mostControls, lastControl, mostRows, idSize, idLimit, noProgram, noEntry, eventOf}
 use Rattle.rules.specs.Rows.{Row}
-use Rattle.rules.specs.Bytes.{rowSize, rowsSize, rowBytes, eventSize, entrySize, markAt}
+use Rattle.rules.specs.Bytes.{rowSize, rowsSize, rowBytes, eventSize, entrySize, markAt, recordSize}
 use Rattle.rules.specs.Sound.{sound}
 use Rattle.rules.specs.Calls.{Call, addProgram, deliver, cancel, setClock, ask, list, call}
 use Rattle.rules.specs.Image.{programSize, programsAt, entriesAt, imageSize, image, loaded, formed, imaged}
@@ -276,7 +276,7 @@ unfoldable pub sizesHold : Bool
 sizesHold =
     same (mostEvents ∷ mostPrograms ∷ lastProgram ∷ mostControls ∷ lastControl ∷ mostRows ∷ []) (48 ∷ 8 ∷ 7 ∷ 32 ∷ 31 ∷ 96 ∷ [])
     && same (idSize ∷ idLimit ∷ rowSize ∷ rowsSize ∷ []) (8 ∷ 0x10000000000000000 ∷ 17 ∷ 1632 ∷ [])
-    && same (eventSize ∷ entrySize ∷ markAt ∷ []) (33 ∷ 46 ∷ 45 ∷ [])
+    && same (eventSize ∷ entrySize ∷ markAt ∷ recordSize ∷ []) (33 ∷ 46 ∷ 45 ∷ 54 ∷ [])
     && same (programSize ∷ programsAt ∷ entriesAt ∷ imageSize ∷ []) (6 ∷ 9 ∷ 57 ∷ 2265 ∷ [])
     && same (eventFrame ∷ cancelFrame ∷ clockFrame ∷ programFrame ∷ askFrame ∷ []) (34 ∷ 9 ∷ 9 ∷ 7 ∷ 2 ∷ [])
 

@@ -95,7 +95,8 @@ abbrev pub periodsHold : ℕ → List Period → List Event → Bool
 periodsHold clock [] es = true
 periodsHold clock (p ∷ ps) [] = false
 periodsHold clock (p ∷ ps) (e ∷ es) =
-    eqb (periodOf e clock .start) (p .start) && eqb (periodOf e clock .end) (p .end) && periodsHold clock ps es
+    eqb (periodOf e clock .start) (p .start) && eqb (periodOf e clock .end) (p .end) && eqb (periodOf e clock .earliest) (p .earliest)
+    && periodsHold clock ps es
 
 -- the rows of all clock calls
 abbrev pub rowsIn : List Reply → List ℕ

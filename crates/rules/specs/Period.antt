@@ -1,6 +1,6 @@
 -- Effective period.
 -- IEEE 2030.5 calls document 01's drawn start "Effective Start Time"; here, as in document 01, an effective start is never before receipt.
-use Prim.Native.Nat.{ℕ, _+_, _-_, _%_, max}
+use Prim.Native.Nat.{ℕ, _+_, _-_, _%_, min, max}
 use Rattle.rules.specs.declared.Event.{Event}
 use Rattle.rules.specs.declared.Period.{Period}
 use Rattle.rules.specs.declared.Dated.{Dated}
@@ -25,9 +25,13 @@ effectiveEnd e = plus (drawnStart e + e .duration) (e .«duration_draw»)
 unfoldable pub effectiveStart : Event → ℕ → ℕ
 effectiveStart e receipt = max (drawnStart e) (receipt + 1)
 
--- Effective period, period: the moments from `start` on and before `end`
+-- Document 02, #101, Earliest Effective Start Time: the lesser of start and start + randomizeStart, whatever the draw and the receipt clock
+unfoldable pub earliestStart : Event → ℕ
+earliestStart e = min (e .start) (plus (e .start) (e .«randomize_start»))
+
+-- Effective period, period: the moments from `start` on and before `end`; and #101's third time
 abbrev pub periodOf : Event → ℕ → Period
-periodOf e receipt = record { start = effectiveStart e receipt; end = effectiveEnd e }
+periodOf e receipt = record { start = effectiveStart e receipt; end = effectiveEnd e; earliest = earliestStart e }
 
 -- Form by location, effective end: a time, with the record handed back
 abbrev pub dated : ℕ → Event → Dated

@@ -35,6 +35,11 @@ abbrev pub entriesNumbers : List Entry → List ℕ
 entriesNumbers [] = []
 entriesNumbers (h ∷ hs) = entryNumbers h ++ entriesNumbers hs
 
+-- listed records as numbers: each event as it is held, and its earliest start
+abbrev pub recordsNumbers : List Record → List ℕ
+recordsNumbers [] = []
+recordsNumbers (r ∷ rs) = entryNumbers (r .entry) ++ (r .earliest ∷ recordsNumbers rs)
+
 -- a call, and what it gives
 pub record Step : Type 0 where
   pub call : Call
@@ -48,7 +53,7 @@ stepHolds s r =
     eqb (r .number) (s .number)
     && same (valueNumbers (r .value)) (valueNumbers (s .value))
     && same (r .bytes) (s .bytes)
-    && same (entriesNumbers (map (λ x. x .entry) (r .records))) (entriesNumbers (map (λ x. x .entry) (s .records)))
+    && same (recordsNumbers (r .records)) (recordsNumbers (s .records))
 
 abbrev pub stepsHold : List Step → List Reply → Bool
 stepsHold [] [] = true

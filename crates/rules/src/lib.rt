@@ -4,6 +4,7 @@ ghost use mathlib.Core.Path.{_≡_};
 ghost use mathlib.Core.Bool.{true};
 ghost use Rattle.rules.specs.Records.{noEvent, noEntry, fresh, pad};
 ghost use Rattle.rules.specs.Sound.{sound};
+ghost use Rattle.rules.specs.Calls.{recordOf};
 ghost use Rattle.rules.specs.Image.{image, loaded, imaged};
 ghost use Rattle.rules.specs.Printed.{output};
 ghost use Rattle.rules.specs.Clauses.{Clauses, ImageKept};
@@ -71,10 +72,11 @@ pub struct Event {
     pub duration_draw: u16,
 }
 
-// Effective period. The times that are worked out for an event.
+// Effective period. The times that are worked out for an event. Document 02, #101: `earliest` is the Earliest Effective Start Time.
 pub struct Period {
     pub start: u64,
     pub end: u64,
+    pub earliest: u64,
 }
 
 // A time that was worked out, with the record handed back.
@@ -91,9 +93,10 @@ pub struct Entry {
     pub cancelled: bool,
 }
 
-// Calls. What a listing gives for each held event.
+// Calls. What a listing gives for each held event. Document 02, #101: with the moment at which it might begin at the earliest.
 pub struct Record {
     pub entry: Entry,
+    pub earliest: u64,
 }
 
 // Records. The state that goes into each call and comes out of it.
@@ -174,6 +177,22 @@ impl Entry {
             begins: 0,
             held: 0,
             cancelled: false,
+        }
+    }
+}
+
+impl Record {
+    // Frames and image, C hosts. Bytes of a listed record: the entry, and 8 of the earliest start.
+    pub const SIZE: usize = Entry::SIZE + 8;
+
+    // Calls, list: the record of a held event.
+    pub fn of(entry: Entry) -> Record
+        ensures { λ r. ⌜ r ≡ recordOf entry ⌝ }
+    {
+        let earliest = entry.event.earliest_start();
+        Record {
+            entry,
+            earliest: earliest.time,
         }
     }
 }

@@ -2,7 +2,7 @@
 ghost use mathlib.Core.Path.{_≡_};
 ghost use Prim.Native.Nat.{_+_, _<_, _^_, min, max};
 ghost use Rattle.rules.specs.Records.{primacyIs, lastClock};
-ghost use Rattle.rules.specs.Period.{lift, plus, drawnStart, effectiveEnd, periodOf, dated};
+ghost use Rattle.rules.specs.Period.{lift, plus, drawnStart, effectiveEnd, earliestStart, periodOf, dated};
 ghost use Rattle.rules.specs.Sound.{outside, drawn, outOfRange, malformed, sameEvent};
 ghost use Rattle.rules.specs.Calls.{numberOf, valueOf, counted};
 use crate::Answer;
@@ -137,16 +137,29 @@ impl Event {
         }
     }
 
+    // Document 02, #101, Earliest Effective Start Time: without a draw and without the receipt clock.
+    pub fn earliest_start(self) -> Dated
+        ensures { λ r. ⌜ r ≡ dated (earliestStart self) self ⌝ }
+    {
+        let start = self.start as u64;
+        Dated {
+            time: earlier(start, moved(start, self.randomize_start)),
+            event: self,
+        }
+    }
+
     // Effective period, the whole of it, of an event that is first accepted at a receipt clock. That is at most the last reading.
     pub fn period(self, receipt: u64) -> Period
         ensures { λ r. ⌜ r ≡ periodOf self (min receipt lastClock) ⌝ }
     {
         let start = self.drawn_start();
         let end = self.effective_end();
+        let earliest = self.earliest_start();
         let clock = earlier(receipt, Schedule::LAST_CLOCK);
         Period {
             start: later(start.time, clock + 1),
             end: end.time,
+            earliest: earliest.time,
         }
     }
 }

@@ -8,7 +8,7 @@ use fuzz::{Move, Moves, Room};
 use oracle::beside::{compare, make_fresh, Broken, Lent, Oracle, Outcome, Seen};
 use oracle::calls::ROW_BYTES;
 use oracle::event::LAST_CLOCK;
-use oracle::image::{ENTRY_BYTES, IMAGE_BYTES};
+use oracle::image::{IMAGE_BYTES, RECORD_BYTES};
 use oracle::proved::Call;
 use oracle::random::Dice;
 use oracle::{Calls, Fast, Frame, Row, Scheduler};
@@ -71,8 +71,8 @@ impl Host {
                 self.call(&call)
             }
             Move::List(room) => {
-                let records = self.count(|fast| fast.records().len());
-                self.call(&Call::List(room.bytes(ENTRY_BYTES * records)))
+                let records = self.count(|fast| fast.entries().len());
+                self.call(&Call::List(room.bytes(RECORD_BYTES * records)))
             }
             Move::Fresh => self.make_fresh(),
             Move::Edit(edit) => self.change(|image| edit.make(image)),

@@ -4,13 +4,13 @@
 
 use oracle::event::LAST_CLOCK;
 use oracle::frame::{read_event, EVENT_FIELDS};
-use oracle::image::{ENTRY_BYTES, IMAGE_BYTES};
+use oracle::image::{ENTRY_BYTES, IMAGE_BYTES, RECORD_BYTES};
 use oracle::{Event, Frame, Program};
 
 /// More would make a run slow and show little.
 const MOST_MOVES: usize = 300;
 
-const EARLIEST_START: u64 = 3_600;
+const LEAST_START: u64 = 3_600;
 const EVENTS_AT: usize = IMAGE_BYTES - 48 * ENTRY_BYTES;
 
 pub enum Move<'a> {
@@ -36,7 +36,9 @@ impl Room {
             1 => exact.saturating_sub(1),
             2 => exact + 1,
             3 => 0,
-            4 => 48 * ENTRY_BYTES + 1,
+            4 => 48 * RECORD_BYTES + 1,
+            // Of a listing: enough for as many image entries, not for as many records.
+            5 => exact - exact / 8,
             some => usize::from(some),
         }
     }
@@ -143,10 +145,11 @@ impl<'a> Moves<'a> {
         Some(Move::Frame(Frame::Event(self.last), Room::AMPLE))
     }
 
-    /// The top bits of the second byte tell which of the fields follow that are mostly 0.
+    /// The top bits of the second byte tell which of the fields follow that are mostly 0, and the
+    /// next one that draws have the sign of their randomisation, so that most are in range.
     fn near_event(&mut self) -> Option<Event> {
         let [id, program, controls, start, duration] = self.take()?;
-        let around = self.clock.max(EARLIEST_START) as i64 + i64::from(start as i8);
+        let around = self.clock.max(LEAST_START) as i64 + i64::from(start as i8);
         let mut event = Event {
             id: id_of(id),
             program: (program & 15) % 9,
@@ -159,11 +162,16 @@ impl<'a> Moves<'a> {
             event.creation = self.byte()?.into();
         }
         if program & 128 != 0 {
-            let [start, duration, start_draw, duration_draw] = self.take()?.map(|byte| byte as i8);
-            event.randomize_start = i16::from(start) * 30;
-            event.randomize_duration = i16::from(duration) * 30;
-            event.start_draw = start_draw.into();
-            event.duration_draw = duration_draw.into();
+            let bytes = self.take()?.map(|byte| i16::from(byte as i8));
+            let [start, duration, start_draw, duration_draw] = bytes;
+            let signed = |draw: i16, randomisation: i16| match program & 32 {
+                0 => draw,
+                _ => draw.abs() * randomisation.signum(),
+            };
+            event.randomize_start = start * 30;
+            event.randomize_duration = duration * 30;
+            event.start_draw = signed(start_draw, start);
+            event.duration_draw = signed(duration_draw, duration);
         }
         Some(event)
     }

@@ -1,7 +1,7 @@
 //! A call made on both sides, by an oracle and through C, and all that a host can see of it
 //! compared: the number returned, the image and the lent bytes, with guards around both.
 
-use crate::image::{ENTRY_BYTES, IMAGE_BYTES};
+use crate::image::{IMAGE_BYTES, RECORD_BYTES};
 use crate::proved::{self, Call};
 use crate::random::Dice;
 use crate::{Answer, Calls, Event, Fast, Program, Record, Row, Scheduler};
@@ -86,8 +86,8 @@ fn answer(oracle: &mut impl Calls, call: &Call, lent: &mut [u8]) -> Result<i32, 
             Answer::None => Ok(0),
         },
         Call::List(room) => {
-            let records = oracle.list(room / ENTRY_BYTES)?;
-            write_front(lent, records.iter().map(Record::entry));
+            let records = oracle.list(room / RECORD_BYTES)?;
+            write_front(lent, records.iter().map(Record::bytes));
             Ok(records.len() as i32)
         }
     }

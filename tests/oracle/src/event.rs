@@ -3,7 +3,7 @@
 pub const MOST_EVENTS: usize = 48;
 pub const LAST_CLOCK: u64 = 9_000_000_000;
 pub const CONTROLS: usize = 32;
-const EARLIEST_START: u32 = 3_600;
+const LEAST_START: u32 = 3_600;
 const WIDEST: i16 = 3_600;
 
 #[derive(Clone, Copy, PartialEq, Eq, Debug)]
@@ -48,6 +48,13 @@ impl Event {
         self.drawn_start().max(receipt + 1)
     }
 
+    /// The lesser of start and start plus randomizeStart, whatever the draw and the receipt. Cut
+    /// off at 0 likewise.
+    pub fn earliest_start(&self) -> u64 {
+        let start = u64::from(self.start);
+        start.min(start.saturating_add_signed(self.randomize_start.into()))
+    }
+
     /// Lower primacy first, then later creation, then larger id.
     pub fn rank(&self, primacy: u8) -> Rank {
         let by_creation = u128::from(!self.creation) << 64;
@@ -66,7 +73,7 @@ impl Event {
 
     fn in_range(&self) -> bool {
         self.controls != 0
-            && self.start >= EARLIEST_START
+            && self.start >= LEAST_START
             && self.duration != 0
             && draw_fits(self.start_draw, self.randomize_start)
             && draw_fits(self.duration_draw, self.randomize_duration)

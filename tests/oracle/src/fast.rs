@@ -6,7 +6,7 @@ use crate::event::{
     check_clock, check_program, default_program, Event, Program, Programs, Rank, CONTROLS,
     MOST_EVENTS,
 };
-use crate::image::{self, Image, Record};
+use crate::image::{self, Entry, Image, Record};
 
 /// A set of places, one bit each.
 type Places = u64;
@@ -72,8 +72,8 @@ impl Fast {
         fast.clock = image.clock;
         fast.programs = image.programs;
         fast.refresh_defaults();
-        for record in &image.records {
-            fast.put(fast.held.len(), record);
+        for entry in &image.entries {
+            fast.put(fast.held.len(), entry);
         }
         Some(fast)
     }
@@ -82,17 +82,17 @@ impl Fast {
         image::write(&Image {
             clock: self.clock,
             programs: self.programs,
-            records: self.records(),
+            entries: self.entries(),
         })
     }
 
-    pub fn records(&self) -> Vec<Record> {
-        self.held.iter().map(|&(_, at)| self.record(at)).collect()
+    pub fn entries(&self) -> Vec<Entry> {
+        self.held.iter().map(|&(_, at)| self.entry(at)).collect()
     }
 
-    fn record(&self, at: usize) -> Record {
+    fn entry(&self, at: usize) -> Entry {
         let place = &self.places[at];
-        Record {
+        Entry {
             event: place.event,
             effective_start: place.effective_start,
             held: self.masks[at],
@@ -117,23 +117,23 @@ impl Fast {
     }
 
     /// Holds one more event, whose id belongs at `order` among the ids.
-    fn put(&mut self, order: usize, record: &Record) {
+    fn put(&mut self, order: usize, entry: &Entry) {
         let at = self.free.trailing_zeros() as usize;
-        let event = &record.event;
+        let event = &entry.event;
         let primacy = self.programs[usize::from(event.program)].map_or(0, |p| p.primacy);
         self.free &= !(1 << at);
         self.held.insert(order, (event.id, at));
         self.places[at] = Place {
             event: *event,
-            effective_start: record.effective_start,
+            effective_start: entry.effective_start,
             rank: event.rank(primacy),
-            cancelled: record.cancelled,
+            cancelled: entry.cancelled,
         };
-        self.set_mask(at, record.held);
-        self.taken |= record.held;
+        self.set_mask(at, entry.held);
+        self.taken |= entry.held;
         self.plan(event.effective_end() << TIME_SHIFT | at as u64);
-        if record.effective_start > self.clock {
-            self.plan(record.effective_start << TIME_SHIFT | START | at as u64);
+        if entry.effective_start > self.clock {
+            self.plan(entry.effective_start << TIME_SHIFT | START | at as u64);
         }
     }
 
@@ -299,13 +299,13 @@ impl Calls for Fast {
         if self.free == 0 {
             return Err(10);
         }
-        let record = Record {
+        let entry = Entry {
             event: *event,
             effective_start: event.effective_start(self.clock),
             held: 0,
             cancelled: false,
         };
-        self.put(order, &record);
+        self.put(order, &entry);
         Ok(1)
     }
 
@@ -342,6 +342,7 @@ impl Calls for Fast {
         if room < self.held.len() {
             return Err(13);
         }
-        Ok(self.records())
+        let places = self.held.iter().map(|&(_, at)| at);
+        Ok(places.map(|at| self.entry(at).listed()).collect())
     }
 }

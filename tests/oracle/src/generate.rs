@@ -5,7 +5,7 @@ use crate::calls::Calls;
 use crate::event::{is_usable, Event, Program, LAST_CLOCK, MOST_EVENTS};
 use crate::fast::Fast;
 use crate::frame::{encode, hex, Frame};
-use crate::image::Record;
+use crate::image::Entry;
 use crate::random::Dice;
 
 /// What kind of masks events carry.
@@ -317,9 +317,9 @@ impl Generator {
         self.schedule.clock()
     }
 
-    fn any_held(&mut self) -> Option<Record> {
-        let records = self.schedule.records();
-        (!records.is_empty()).then(|| self.dice.pick(&records))
+    fn any_held(&mut self) -> Option<Entry> {
+        let entries = self.schedule.entries();
+        (!entries.is_empty()).then(|| self.dice.pick(&entries))
     }
 
     // Events.
@@ -335,7 +335,7 @@ impl Generator {
 
     /// True mostly if no id or no place is free, so that time has to pass first.
     fn is_crowded(&mut self) -> bool {
-        let held = self.schedule.records().len();
+        let held = self.schedule.entries().len();
         let crowded = held as u64 >= self.profile.ids.min(MOST_EVENTS as u64);
         crowded && self.dice.chance(7, 8)
     }
@@ -427,10 +427,10 @@ impl Generator {
 
     /// An id that is not held, if some tries find one.
     fn free_id(&mut self) -> u64 {
-        let held = self.schedule.records();
+        let held = self.schedule.entries();
         for _ in 0..8 {
             let id = self.any_id();
-            if held.iter().all(|record| record.event.id != id) {
+            if held.iter().all(|entry| entry.event.id != id) {
                 return id;
             }
         }
@@ -482,14 +482,14 @@ impl Generator {
 
     fn deliver_again(&mut self) {
         match self.any_held() {
-            Some(record) => self.put(Frame::Event(record.event)),
+            Some(entry) => self.put(Frame::Event(entry.event)),
             None => self.deliver_ahead(),
         }
     }
 
     /// A held id with one field changed, sometimes into a forbidden value.
     fn deliver_changed(&mut self) {
-        let Some(Record { mut event, .. }) = self.any_held() else {
+        let Some(Entry { mut event, .. }) = self.any_held() else {
             return self.deliver_ahead();
         };
         match self.dice.below(10) {
@@ -543,7 +543,7 @@ impl Generator {
 
     /// Delivers until 48 are held, and some more.
     fn fill(&mut self) {
-        let missing = MOST_EVENTS - self.schedule.records().len();
+        let missing = MOST_EVENTS - self.schedule.entries().len();
         for _ in 0..missing + 2 {
             let target = self.clock() + 1 + self.amount(self.profile.ahead);
             let mut event = self.event_at(target);
@@ -556,36 +556,36 @@ impl Generator {
 
     fn cancel_now(&mut self) {
         match self.any_held() {
-            Some(record) => self.put(Frame::Cancel(record.event.id)),
+            Some(entry) => self.put(Frame::Cancel(entry.event.id)),
             None => self.cancel_unknown(),
         }
     }
 
     fn cancel_again(&mut self) {
-        let mut records = self.schedule.records();
-        records.retain(|record| record.cancelled);
-        if !records.is_empty() {
-            let record = self.dice.pick(&records);
-            self.put(Frame::Cancel(record.event.id));
+        let mut entries = self.schedule.entries();
+        entries.retain(|entry| entry.cancelled);
+        if !entries.is_empty() {
+            let entry = self.dice.pick(&entries);
+            self.put(Frame::Cancel(entry.event.id));
         }
     }
 
     /// Around the start, at the last second, or at the end, where the id is gone.
     fn cancel_at_moment(&mut self) {
-        let Some(record) = self.any_held() else {
+        let Some(entry) = self.any_held() else {
             return self.cancel_unknown();
         };
-        let start = record.effective_start;
-        let end = record.event.effective_end();
+        let start = entry.effective_start;
+        let end = entry.event.effective_end();
         let moments = [start.saturating_sub(1), start, start + 1, end - 1, end];
         let moment = self.dice.pick(&moments);
         self.clock_at_least(moment);
-        self.put(Frame::Cancel(record.event.id));
+        self.put(Frame::Cancel(entry.event.id));
         if self.dice.chance(1, 4) {
-            self.put(Frame::Cancel(record.event.id));
+            self.put(Frame::Cancel(entry.event.id));
         }
         if self.dice.chance(1, 2) {
-            let control = record.event.controls.trailing_zeros() as u8;
+            let control = entry.event.controls.trailing_zeros() as u8;
             self.put(Frame::Ask(control));
         }
     }
@@ -614,18 +614,18 @@ impl Generator {
     }
 
     fn step_to_change(&mut self) {
-        let Some(record) = self.any_held() else {
+        let Some(entry) = self.any_held() else {
             return self.step();
         };
-        let end = record.event.effective_end();
-        let moment = self.dice.pick(&[record.effective_start, end]);
+        let end = entry.event.effective_end();
+        let moment = self.dice.pick(&[entry.effective_start, end]);
         let reading = moment.saturating_add_signed(self.dice.between(-1, 1));
         self.clock_at_least(reading);
     }
 
     fn drain(&mut self) {
-        let records = self.schedule.records();
-        let last = records.iter().map(|r| r.event.effective_end()).max();
+        let entries = self.schedule.entries();
+        let last = entries.iter().map(|e| e.event.effective_end()).max();
         let reading = last.unwrap_or(self.clock());
         self.clock_at_least(reading);
     }

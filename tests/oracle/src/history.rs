@@ -5,7 +5,7 @@ use crate::event::{
     check_clock, check_program, default_program, Event, Program, Programs, Rank, CONTROLS,
     MOST_EVENTS,
 };
-use crate::image::{self, Image, Record};
+use crate::image::{self, Entry, Image, Record};
 
 /// How an event came in.
 #[derive(Clone, Copy, Debug)]
@@ -168,23 +168,23 @@ impl Scheduler {
             programs: image.programs,
             ..Scheduler::fresh()
         };
-        for record in &image.records {
-            scheduler.load(record);
+        for entry in &image.entries {
+            scheduler.load(entry);
         }
         Some(scheduler)
     }
 
     /// When an event of an image was cancelled is not known; any clock up to the image's will do,
     /// as its mask is empty.
-    fn load(&mut self, record: &Record) {
+    fn load(&mut self, entry: &Entry) {
         let origin = Origin::Loaded {
             clock: self.clock,
-            effective_start: record.effective_start,
-            held: record.held,
+            effective_start: entry.effective_start,
+            held: entry.held,
         };
-        self.held.push((record.event.id, self.history.len()));
-        self.remember(&record.event, origin);
-        if record.cancelled {
+        self.held.push((entry.event.id, self.history.len()));
+        self.remember(&entry.event, origin);
+        if entry.cancelled {
             let last = self.history.len() - 1;
             self.history[last].cancelled_at = Some(self.clock);
         }
@@ -194,7 +194,7 @@ impl Scheduler {
         image::write(&Image {
             clock: self.clock,
             programs: self.programs,
-            records: self.records(),
+            entries: self.entries(),
         })
     }
 
@@ -241,15 +241,15 @@ impl Scheduler {
             .fold(0, |mask, span| mask | 1 << span.control)
     }
 
-    fn records(&mut self) -> Vec<Record> {
+    fn entries(&mut self) -> Vec<Entry> {
         let held = self.held.clone();
-        held.iter().map(|&(_, index)| self.record(index)).collect()
+        held.iter().map(|&(_, index)| self.entry(index)).collect()
     }
 
-    fn record(&mut self, index: usize) -> Record {
+    fn entry(&mut self, index: usize) -> Entry {
         let held = self.mask_now(index);
         let past = &self.history[index];
-        Record {
+        Entry {
             event: past.event,
             effective_start: past.effective_start(),
             held,
@@ -364,6 +364,6 @@ impl Calls for Scheduler {
         if room < self.held.len() {
             return Err(13);
         }
-        Ok(self.records())
+        Ok(self.entries().into_iter().map(Entry::listed).collect())
     }
 }

@@ -5,24 +5,33 @@ use crate::frame::{part, read_event, write_event, EVENT_FIELDS};
 
 pub const IMAGE_BYTES: usize = 2_265;
 pub const ENTRY_BYTES: usize = 46;
+/// A listed record over C: an image entry, then the earliest start.
+pub const RECORD_BYTES: usize = ENTRY_BYTES + 8;
 const PROGRAM_BYTES: usize = 6;
 const HEAD_BYTES: usize = 9;
 const EVENTS_AT: usize = HEAD_BYTES + 8 * PROGRAM_BYTES;
 
-/// A held event as it is listed, and as an image entry has it.
+/// A held event as an image has it.
 #[derive(Clone, Copy, PartialEq, Eq, Debug)]
-pub struct Record {
+pub struct Entry {
     pub event: Event,
     pub effective_start: u64,
     pub held: u32,
     pub cancelled: bool,
 }
 
+/// A held event as it is listed.
+#[derive(Clone, Copy, PartialEq, Eq, Debug)]
+pub struct Record {
+    pub entry: Entry,
+    pub earliest_start: u64,
+}
+
 #[derive(Clone, PartialEq, Eq, Debug)]
 pub struct Image {
     pub clock: u64,
     pub programs: Programs,
-    pub records: Vec<Record>,
+    pub entries: Vec<Entry>,
 }
 
 /// `None` is refusal 2.
@@ -33,7 +42,7 @@ pub fn read(bytes: &[u8]) -> Option<Image> {
     let image = Image {
         clock: u64::from_be_bytes(part(bytes, 0)),
         programs: read_programs(bytes)?,
-        records: read_records(bytes)?,
+        entries: read_entries(bytes)?,
     };
     obeys_rules(&image).then_some(image)
 }
@@ -58,7 +67,7 @@ fn read_program(entry: &[u8]) -> Option<Option<Program>> {
     }
 }
 
-fn read_records(bytes: &[u8]) -> Option<Vec<Record>> {
+fn read_entries(bytes: &[u8]) -> Option<Vec<Entry>> {
     let count = usize::from(bytes[8]);
     if count > MOST_EVENTS {
         return None;
@@ -67,16 +76,16 @@ fn read_records(bytes: &[u8]) -> Option<Vec<Record>> {
     if unused.iter().any(|&byte| byte != 0) {
         return None;
     }
-    used.chunks_exact(ENTRY_BYTES).map(read_record).collect()
+    used.chunks_exact(ENTRY_BYTES).map(read_entry).collect()
 }
 
-fn read_record(entry: &[u8]) -> Option<Record> {
+fn read_entry(entry: &[u8]) -> Option<Entry> {
     let cancelled = match entry[ENTRY_BYTES - 1] {
         0 => false,
         1 => true,
         _ => return None,
     };
-    Some(Record {
+    Some(Entry {
         event: read_event(&entry[..EVENT_FIELDS]),
         effective_start: u64::from_be_bytes(part(entry, EVENT_FIELDS)),
         held: u32::from_be_bytes(part(entry, EVENT_FIELDS + 8)),
@@ -85,36 +94,36 @@ fn read_record(entry: &[u8]) -> Option<Record> {
 }
 
 fn obeys_rules(image: &Image) -> bool {
-    let rising = |pair: &[Record]| pair[0].event.id < pair[1].event.id;
+    let rising = |pair: &[Entry]| pair[0].event.id < pair[1].event.id;
     image.clock <= LAST_CLOCK
-        && image.records.windows(2).all(rising)
-        && image.records.iter().all(|record| fits(record, image))
-        && masks_are_apart(&image.records)
+        && image.entries.windows(2).all(rising)
+        && image.entries.iter().all(|entry| fits(entry, image))
+        && masks_are_apart(&image.entries)
 }
 
-fn fits(record: &Record, image: &Image) -> bool {
-    record.event.check_fields(&image.programs).is_ok()
-        && period_fits(record, image.clock)
-        && mask_fits(record, image.clock)
+fn fits(entry: &Entry, image: &Image) -> bool {
+    entry.event.check_fields(&image.programs).is_ok()
+        && period_fits(entry, image.clock)
+        && mask_fits(entry, image.clock)
 }
 
-fn period_fits(record: &Record, clock: u64) -> bool {
-    let end = record.event.effective_end();
-    let possible = record.event.drawn_start()..end;
-    possible.contains(&record.effective_start) && end > clock
+fn period_fits(entry: &Entry, clock: u64) -> bool {
+    let end = entry.event.effective_end();
+    let possible = entry.event.drawn_start()..end;
+    possible.contains(&entry.effective_start) && end > clock
 }
 
-fn mask_fits(record: &Record, clock: u64) -> bool {
-    let may_hold = clock >= record.effective_start && !record.cancelled;
-    let allowed = if may_hold { record.event.controls } else { 0 };
-    record.held & !allowed == 0
+fn mask_fits(entry: &Entry, clock: u64) -> bool {
+    let may_hold = clock >= entry.effective_start && !entry.cancelled;
+    let allowed = if may_hold { entry.event.controls } else { 0 };
+    entry.held & !allowed == 0
 }
 
-fn masks_are_apart(records: &[Record]) -> bool {
+fn masks_are_apart(entries: &[Entry]) -> bool {
     let mut seen = 0;
-    records.iter().all(|record| {
-        let apart = seen & record.held == 0;
-        seen |= record.held;
+    entries.iter().all(|entry| {
+        let apart = seen & entry.held == 0;
+        seen |= entry.held;
         apart
     })
 }
@@ -122,12 +131,12 @@ fn masks_are_apart(records: &[Record]) -> bool {
 pub fn write(image: &Image) -> Vec<u8> {
     let mut bytes = Vec::with_capacity(IMAGE_BYTES);
     bytes.extend_from_slice(&image.clock.to_be_bytes());
-    bytes.push(image.records.len() as u8);
+    bytes.push(image.entries.len() as u8);
     for program in &image.programs {
         write_program(program, &mut bytes);
     }
-    for record in &image.records {
-        bytes.extend_from_slice(&record.entry());
+    for entry in &image.entries {
+        bytes.extend_from_slice(&entry.bytes());
     }
     bytes.resize(IMAGE_BYTES, 0);
     bytes
@@ -142,14 +151,29 @@ fn write_program(slot: &Option<Program>, bytes: &mut Vec<u8>) {
     bytes.extend_from_slice(&program.defaults.to_be_bytes());
 }
 
-impl Record {
-    /// The record as a C host gets it.
-    pub fn entry(&self) -> Vec<u8> {
+impl Entry {
+    pub fn listed(self) -> Record {
+        Record {
+            entry: self,
+            earliest_start: self.event.earliest_start(),
+        }
+    }
+
+    pub fn bytes(&self) -> Vec<u8> {
         let mut bytes = Vec::with_capacity(ENTRY_BYTES);
         write_event(&self.event, &mut bytes);
         bytes.extend_from_slice(&self.effective_start.to_be_bytes());
         bytes.extend_from_slice(&self.held.to_be_bytes());
         bytes.push(self.cancelled.into());
+        bytes
+    }
+}
+
+impl Record {
+    /// The record as a C host gets it.
+    pub fn bytes(&self) -> Vec<u8> {
+        let mut bytes = self.entry.bytes();
+        bytes.extend_from_slice(&self.earliest_start.to_be_bytes());
         bytes
     }
 }

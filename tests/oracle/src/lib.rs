@@ -1,4 +1,5 @@
-//! An independent scheduler for document 01, made to be compared with a proved one.
+//! An independent scheduler for document 01 with #101 of document 02, made to be compared with a
+//! proved one.
 //!
 //! `Scheduler` works every answer out from the history of accepted calls by intervals. `Fast` keeps
 //! only the present state and is the rival in speed. Both speak the six calls of `Calls`, which
@@ -19,6 +20,7 @@ pub mod program;
 #[cfg(feature = "face")]
 pub mod proved;
 pub mod random;
+pub mod spread;
 pub mod states;
 pub mod story;
 pub mod svg;
@@ -28,7 +30,7 @@ pub use event::{Event, Program};
 pub use fast::Fast;
 pub use frame::{decode, Frame};
 pub use history::Scheduler;
-pub use image::Record;
+pub use image::{Entry, Record};
 
 #[cfg(test)]
 mod tests;

@@ -4,7 +4,7 @@
 use std::collections::BTreeSet;
 
 use crate::event::{Event, Program, Programs, LAST_CLOCK};
-use crate::image::{Image, Record};
+use crate::image::{Entry, Image};
 use crate::random::Dice;
 
 /// How far from the clock starts and ends lie at most.
@@ -21,13 +21,13 @@ pub fn random_image(dice: &mut Dice) -> Image {
     let programs = random_programs(dice);
     let mut free = u32::MAX;
     let ids = random_ids(dice).into_iter();
-    let records = ids
-        .filter_map(|id| random_record(dice, id, &programs, clock, &mut free))
+    let entries = ids
+        .filter_map(|id| random_entry(dice, id, &programs, clock, &mut free))
         .collect();
     Image {
         clock,
         programs,
-        records,
+        entries,
     }
 }
 
@@ -48,13 +48,13 @@ fn random_ids(dice: &mut Dice) -> BTreeSet<u64> {
 }
 
 /// `None` if the drawn fields break a rule.
-fn random_record(
+fn random_entry(
     dice: &mut Dice,
     id: u64,
     programs: &Programs,
     clock: u64,
     free: &mut u32,
-) -> Option<Record> {
+) -> Option<Entry> {
     let event = random_event(dice, id, clock as i64);
     event.check_fields(programs).ok()?;
     let effective_start = random_start(dice, &event, clock);
@@ -69,14 +69,14 @@ pub(crate) fn random_state(
     effective_start: u64,
     clock: u64,
     free: &mut u32,
-) -> Option<Record> {
+) -> Option<Entry> {
     let cancelled = dice.chance(1, 5);
     let mut held = 0;
     if effective_start <= clock && !cancelled {
         held = event.controls & *free & dice.pick(&[0, 1, 3, 6, u32::MAX]);
         *free &= !held;
     }
-    (event.effective_end() > clock).then_some(Record {
+    (event.effective_end() > clock).then_some(Entry {
         event,
         effective_start,
         held,

@@ -8,7 +8,7 @@ use crate::calls::{lines_of, Calls, Row, AMPLE};
 use crate::event::{check_clock, default_program, Event, Program, Programs, CONTROLS, MOST_EVENTS};
 use crate::frame::{decode, Frame};
 use crate::history::Scheduler;
-use crate::image::Record;
+use crate::image::Entry;
 
 /// The names under `7`, `control 7` or `program 7`. An id that is used again has several.
 #[derive(Default)]
@@ -139,13 +139,14 @@ impl<'a> Story<'a> {
     }
 
     /// What is held now, with its masks.
-    fn records(&mut self) -> Vec<Record> {
-        self.scheduler.list(MOST_EVENTS).unwrap_or_default()
+    fn entries(&mut self) -> Vec<Entry> {
+        let records = self.scheduler.list(MOST_EVENTS).unwrap_or_default();
+        records.into_iter().map(|record| record.entry).collect()
     }
 
     /// What the event holds at this clock counts as held, so its bars end one second later.
     fn cancel(&mut self, id: u64) {
-        let mask = mask_of(&self.records(), id);
+        let mask = mask_of(&self.entries(), id);
         if self.scheduler.cancel(id) != Ok(6) {
             return;
         }
@@ -171,10 +172,10 @@ impl<'a> Story<'a> {
         if check_clock(clock, reading).is_err() {
             return;
         }
-        let records = self.records();
-        let changes = records
+        let entries = self.entries();
+        let changes = entries
             .iter()
-            .flat_map(|record| [record.effective_start, record.event.effective_end()]);
+            .flat_map(|entry| [entry.effective_start, entry.event.effective_end()]);
         let mut moments: Vec<u64> = changes.chain([reading]).collect();
         moments.retain(|&moment| clock < moment && moment <= reading);
         moments.sort_unstable();
@@ -185,11 +186,11 @@ impl<'a> Story<'a> {
 
     /// Moves the clock to the next moment and compares the masks before and after.
     fn pass(&mut self, moment: u64) {
-        let before = self.records();
+        let before = self.entries();
         let rows = self.scheduler.set_clock(moment, AMPLE);
         let rows = rows.map_or(Vec::new(), <[Row]>::to_vec);
-        let after = self.records();
-        for Record { event, held, .. } in &before {
+        let after = self.entries();
+        for Entry { event, held, .. } in &before {
             let known = &mut self.known[self.latest[&event.id]];
             known.change(moment, *held, mask_of(&after, event.id));
         }
@@ -231,13 +232,13 @@ impl<'a> Story<'a> {
         (0..CONTROLS).filter(move |&c| carried >> c & 1 == 1 || !self.defaults[c].is_empty())
     }
 
-    /// The first and the last moment at which something happens.
+    /// The first and the last moment at which something happens or might have.
     pub fn extent(&self) -> Option<(u64, u64)> {
         let limit = self.limit();
-        let periods = self.known.iter().map(|known| known.start..known.end(limit));
-        let times = periods
-            .filter(|period| !period.is_empty())
-            .flat_map(|period| [period.start, period.end])
+        let started = |known: &&Known| known.start < known.end(limit);
+        let events = self.known.iter().filter(started);
+        let times = events
+            .flat_map(|known| [known.event.earliest_start(), known.end(limit)])
             .chain(self.marks.iter().map(|mark| mark.time));
         Some((times.clone().min()?, times.max()?))
     }
@@ -275,6 +276,15 @@ impl Known {
         (self.event.controls >> control & 1 == 1 && begin < end).then_some(begin..end)
     }
 
+    /// The moments before the event's start in which it might have begun, if it has started and
+    /// carries the control.
+    pub fn early(&self, control: usize, limit: u64) -> Option<Range<u64>> {
+        let carried = self.event.controls >> control & 1 == 1;
+        let started = carried && self.start < self.end(limit);
+        let span = self.event.earliest_start()..self.start;
+        (started && !span.is_empty()).then_some(span)
+    }
+
     /// Whether row 7 came at this time for this control.
     pub fn superseded(&self, control: usize, time: u64) -> bool {
         let here = |&(at, controls): &(u64, u32)| at == time && controls >> control & 1 == 1;
@@ -282,7 +292,7 @@ impl Known {
     }
 }
 
-fn mask_of(records: &[Record], id: u64) -> u32 {
-    let found = records.iter().find(|record| record.event.id == id);
-    found.map_or(0, |record| record.held)
+fn mask_of(entries: &[Entry], id: u64) -> u32 {
+    let found = entries.iter().find(|entry| entry.event.id == id);
+    found.map_or(0, |entry| entry.held)
 }

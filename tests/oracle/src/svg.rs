@@ -3,7 +3,8 @@
 use std::ops::Range;
 
 pub const WIDTH: f64 = 1_200.0;
-/// Where the drawn time ends.
+/// Where the drawn time begins and ends.
+pub const LEFT: f64 = 156.0;
 pub const RIGHT: f64 = WIDTH - 34.0;
 /// The height of a lane of marks.
 pub const LANE: f64 = 19.0;
@@ -26,7 +27,8 @@ text{font-family:'DejaVu Sans',Verdana,Arial,sans-serif;font-size:12px;fill:#111
 .s{font-size:10px;fill:#444}.e{text-anchor:end}.w{fill:#fff}.d{font-size:10px;font-weight:bold}
 .halo,.thin{stroke:#fff;stroke-width:4;stroke-linejoin:round}.thin{stroke-width:2.5}
 .grid{stroke:#ddd}.axis{stroke:#111}.read{stroke:#888}.lead{stroke:#888;stroke-width:.8}
-.wait{stroke:#111;stroke-dasharray:2,3}.sign{stroke:#111;stroke-width:1.2}";
+.wait{stroke:#111;stroke-dasharray:2,3}.early{stroke:#111;stroke-width:1.4}
+.sign{stroke:#111;stroke-width:1.2}";
 
 /// About the width of a text of 12 pixels.
 pub fn wide(text: &str) -> f64 {
@@ -44,6 +46,16 @@ pub fn text(x: f64, y: f64, class: &str, content: &str) -> String {
 pub fn line(from: (f64, f64), to: (f64, f64), class: &str) -> String {
     let ((x, y), (x2, y2)) = (from, to);
     format!("<path d=\"M{x:.1},{y:.1}L{x2:.1},{y2:.1}\" class=\"{class}\" fill=\"none\"/>\n")
+}
+
+/// The line before the start of an event, from its earliest start on. Its left end is marked unless
+/// it lies out of sight.
+pub fn early(x: Range<f64>, y: f64, is_whole: bool) -> String {
+    let mut out = line((x.start, y), (x.end, y), "early");
+    if is_whole {
+        out += &line((x.start, y - 2.2), (x.start, y + 2.2), "early");
+    }
+    out
 }
 
 pub fn block(x: Range<f64>, y: Range<f64>, paint: &str) -> String {
@@ -107,6 +119,8 @@ pub fn sign(code: u8, x: f64, y: f64) -> String {
 pub struct Item<'a> {
     pub code: u8,
     pub x: f64,
+    /// Where its thin line begins; `x` if it has none.
+    pub since: f64,
     /// Where its dashed line ends; `x` if it has none.
     pub until: f64,
     pub label: &'a str,
@@ -130,20 +144,24 @@ impl Item<'_> {
 
     fn extent(&self) -> Range<f64> {
         let (half, room) = (self.half(), wide(self.label) + self.half());
-        if self.turned() {
-            self.x - room..self.until.max(self.x + half)
+        let (left, right) = if self.turned() {
+            (room, half)
         } else {
-            self.x - half..self.until.max(self.x + room)
-        }
+            (half, room)
+        };
+        self.since.min(self.x - left)..self.until.max(self.x + right)
     }
 
-    /// The line between the mark and its band. All of them come first, below the marks.
+    /// The line between the mark and its band. It comes first, below the marks of its side.
     pub fn lead(&self, y: f64, edge: f64) -> String {
         line((self.x, edge), (self.x, y), "lead")
     }
 
     pub fn draw(&self, y: f64) -> String {
         let mut out = format!("<g><title>{}</title>\n", escape(&self.hint));
+        if self.since < self.x {
+            out += &early(self.since..self.x, y, self.since > LEFT);
+        }
         if self.until > self.x {
             out += &line((self.x, y + 6.5), (self.until, y + 6.5), "wait");
         }

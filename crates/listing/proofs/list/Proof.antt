@@ -102,6 +102,10 @@ answeredOf r = LL.val Ans.the-type Ans′.the-laws (r .answered)
 parts : (r : Gathered) {v : Val} → Is Ga.the-row r (v ∷ []) → Is usize (r .count) (vint w64 (r .count) ∷ []) × (Is S48 (tuples r) (arrayOf r ∷ []) × (Is Ans.the-row (r .answered) (answeredOf r ∷ []) × Unit {0}))
 parts r {v} is = LL.owed Ga.the-type Ga′.the-laws r (v ∷ []) is
 
+-- bytes from one record of an array to the next
+abbrev stride : ℕ
+stride = 64
+
 -- the machine value of a record
 abbrev held : Record → List Val
 held = LL.vals Rec.the-type Rec′.the-laws
@@ -217,7 +221,7 @@ module _ {M : Type 1} (𝓤 : URA M) (H : Heap 𝓤) (A : Atoms 𝓤) (W : Given
           assigns ! (bin ! (load ! (from ! (stop !)) (look ! 5 refl)) (lit ! tt) (record { fits = near })) (from ! (stop !)) (init ! 10 refl (tt, record { fits = near })) $
           assigns ! (addr ! (from ! (stop !))) (from ! (stop !)) (init ! 11 refl (tt, tt)) $
           assigns ! (bin ! (load ! (from ! (stop !)) (look ! 11 refl)) (load ! (from ! (stop !)) (look ! 10 refl)) tt) (from ! (stop !)) (init ! 12 refl (tt, tt)) $
-          rewrite ! 12 (λ (p : ℕ). ‵ (fat fullShare tyPtr l₁₁ 0 (vptr l₄ p))) (sym (place-is 56 0 i)) refl $
+          rewrite ! 12 (λ (p : ℕ). ‵ (fat fullShare tyPtr l₁₁ 0 (vptr l₄ p))) (sym (place-is stride 0 i)) refl $
           -- the record is taken out of the array, copied, and put back
           move ! (4 ∷ []) $ elem-out ! R (Is R) (shows 𝓤 H A R) held (LL.tells Rec.the-type Rec′.the-laws) fullShare rs i none l₄ 0 (omega arith) (λ is.
           assigns ! (of-opd ! (load ! (from ! (hop ! (look ! 14 refl) (stop !))) (look-raw ! 0 refl))) (from ! (stop !)) (init ! 15 refl (typed is)) $
@@ -225,7 +229,7 @@ module _ {M : Type 1} (𝓤 : URA M) (H : Heap 𝓤) (A : Atoms 𝓤) (W : Given
           -- [the array; the lent list; ..]
           assigns ! (bin ! (load ! (from ! (stop !)) (look ! 5 refl)) (lit ! tt) (record { fits = near })) (from ! (stop !)) (init ! 14 refl (tt, record { fits = near })) $
           assigns ! (bin ! (load ! (from ! (fld ! refl (stop !))) (look-in ! 6 (sub ! 0 refl (whole !)))) (load ! (from ! (stop !)) (look ! 14 refl)) tt) (from ! (stop !)) (init ! 15 refl (tt, tt)) $
-          rewrite ! 15 (λ (p : ℕ). ‵ (fat fullShare tyPtr l₁₄ 0 (vptr b p))) (sym (place-is 56 o i)) refl $
+          rewrite ! 15 (λ (p : ℕ). ‵ (fat fullShare tyPtr l₁₄ 0 (vptr b p))) (sym (place-is stride o i)) refl $
           move ! (1 ∷ []) $ elem-out ! R (Is R) (shows 𝓤 H A R) held (LL.tells Rec.the-type Rec′.the-laws) fullShare (mixed i) i none b o long (λ _.
           assigns ! (of-opd ! (load ! (from ! (stop !)) (look ! 15 refl))) (from ! (hop ! (look ! 17 refl) (stop !))) (store-raw ! 0 refl (typed is)) $
           move ! (1 ∷ []) $ let-go ! $ owned ! R (Is R) (LL.makes Rec.the-type Rec′.the-plain 𝓤 H A) next _ is $ move ! (1 ∷ 0 ∷ []) $
@@ -238,7 +242,7 @@ module _ {M : Type 1} (𝓤 : URA M) (H : Heap 𝓤) (A : Atoms 𝓤) (W : Given
           next : Record
           next = getD rs i none
 
-          near : i * 56 < 2 ^ 64
+          near : i * stride < 2 ^ 64
           near = omega (arith, room .1)
 
           after : i + 1 < 2 ^ 64

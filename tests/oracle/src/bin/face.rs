@@ -10,10 +10,11 @@ use oracle::beside::{compare, make_fresh, same_from, Broken, Lent, Oracle, Outco
 use oracle::calls::{lines_of, AMPLE, ROW_BYTES};
 use oracle::event::MOST_EVENTS;
 use oracle::generate::{generate, go_on, profile_names};
-use oracle::image::{self, ENTRY_BYTES, IMAGE_BYTES};
+use oracle::image::{self, ENTRY_BYTES, IMAGE_BYTES, RECORD_BYTES};
 use oracle::pair::pair;
 use oracle::proved::Call;
 use oracle::random::Dice;
+use oracle::spread::Spread;
 use oracle::states::random_image;
 use oracle::{decode, Calls, Event, Fast, Frame, Program, Row, Scheduler};
 
@@ -290,8 +291,8 @@ fn conclusion(face: &mut Face, dice: Dice, text: &[u8]) -> Outcome<Conclusion> {
     let schedule = run.oracle.rows_so_far();
     let schedule: Vec<u8> = schedule.iter().flat_map(Row::bytes).collect();
     same_from(0, SIDES, "joined rows", &schedule, &run.rows)?;
-    let (listed, mut listing) = run.call(&Call::List(MOST_EVENTS * ENTRY_BYTES))?;
-    listing.truncate(listed as usize * ENTRY_BYTES);
+    let (listed, mut listing) = run.call(&Call::List(MOST_EVENTS * RECORD_BYTES))?;
+    listing.truncate(listed as usize * RECORD_BYTES);
     let ask = |control| {
         let (answer, id) = run.call(&Call::Ask(control, 8))?;
         Ok((answer, if answer == 1 { id } else { Vec::new() }))
@@ -310,6 +311,7 @@ fn conclusion(face: &mut Face, dice: Dice, text: &[u8]) -> Outcome<Conclusion> {
 enum Plant {
     Row,
     Mask,
+    Earliest,
     Answer,
 }
 
@@ -318,6 +320,7 @@ impl Plant {
         match self {
             Plant::Row => matches!(call, Call::Clock(..)) && returned > 0,
             Plant::Mask => returned >= 0 && image[8] > 0,
+            Plant::Earliest => matches!(call, Call::List(_)) && returned > 0,
             Plant::Answer => returned >= 0,
         }
     }
@@ -330,6 +333,11 @@ impl Plant {
                 let mask = EVENTS_AT + ENTRY_BYTES * entry + MASK_AT;
                 flip_bit(dice, &mut image[mask..mask + 4]);
             }
+            Plant::Earliest => {
+                let record = dice.below(*returned as u64) as usize;
+                let time = RECORD_BYTES * record + ENTRY_BYTES;
+                flip_bit(dice, &mut lent[time..time + 8]);
+            }
             Plant::Answer => *returned += dice.pick(&[1, -1]),
         }
     }
@@ -338,9 +346,10 @@ impl Plant {
 /// Of so many places for a fault one gets it.
 const SELDOM: u64 = 1_000;
 
-const PLANTS: [(&str, Plant); 3] = [
+const PLANTS: [(&str, Plant); 4] = [
     ("row", Plant::Row),
     ("mask", Plant::Mask),
+    ("earliest", Plant::Earliest),
     ("answer", Plant::Answer),
 ];
 
@@ -351,6 +360,7 @@ struct Face {
     chances: u64,
     planted: u64,
     tally: BTreeMap<(&'static str, i32), u64>,
+    spread: Spread,
     accepted_images: u64,
     refused_images: u64,
 }
@@ -362,6 +372,7 @@ impl Face {
             chances: 0,
             planted: 0,
             tally: BTreeMap::new(),
+            spread: Spread::default(),
             accepted_images: 0,
             refused_images: 0,
         }
@@ -402,6 +413,7 @@ impl Face {
                 .collect();
             println!("  {name}  {}", parts.join(", "));
         }
+        println!("{}", self.spread);
         let (accepted, refused) = (self.accepted_images, self.refused_images);
         println!("damaged images: {accepted} accepted, {refused} refused");
         if self.plant.is_some() {
@@ -548,18 +560,27 @@ impl<'a, O: Oracle> Run<'a, O> {
         Ok(())
     }
 
+    /// Lengths around each edge, and one that has room for as many image entries, but not for as
+    /// many records.
     fn list(&mut self) -> Outcome {
-        let exact = ENTRY_BYTES * self.oracle.list(MOST_EVENTS).map_or(0, |list| list.len());
+        let records = self.oracle.list(MOST_EVENTS).unwrap_or_default();
+        let exact = RECORD_BYTES * records.len();
+        let entries = ENTRY_BYTES * records.len();
+        let between = entries + self.dice.below((exact - entries) as u64) as usize;
         let rooms = [
             exact,
             exact.saturating_sub(1),
-            exact.saturating_sub(ENTRY_BYTES),
+            exact.saturating_sub(RECORD_BYTES),
             exact + 1,
-            exact + ENTRY_BYTES,
-            MOST_EVENTS * ENTRY_BYTES + 9,
+            exact + RECORD_BYTES,
+            MOST_EVENTS * RECORD_BYTES + 9,
+            between,
             0,
         ];
         let room = self.dice.pick(&rooms);
+        if room >= exact {
+            self.face.spread.count_all(&records);
+        }
         self.make(&Call::List(room))
     }
 

@@ -200,7 +200,7 @@ fn describe(text: &[u8]) -> String {
         refused += usize::from(is_refused);
         events += usize::from(is_new);
     }
-    let ended = events - schedule.records().len();
+    let ended = events - schedule.entries().len();
     let percent = |part, whole: usize| 100 * part / whole.max(1);
     let (refused, ended) = (percent(refused, lines), percent(ended, events));
     format!("{refused:5} %  {events:6}  {ended:3} %")
@@ -223,10 +223,12 @@ mod calls {
     use std::hint::black_box;
     use std::time::Instant;
 
+    use oracle::beside::{compare, Lent, Outcome, Seen};
     use oracle::calls::AMPLE;
     use oracle::event::MOST_EVENTS;
-    use oracle::image::ENTRY_BYTES;
+    use oracle::image::RECORD_BYTES;
     use oracle::proved::Call;
+    use oracle::random::Dice;
     use oracle::{Answer, Calls, Event, Fast, Program};
 
     const TURNS: usize = 500;
@@ -256,7 +258,7 @@ mod calls {
             primacy: 70,
             defaults: 1,
         };
-        let records = MOST_EVENTS * ENTRY_BYTES;
+        let records = MOST_EVENTS * RECORD_BYTES;
         [
             ("add_program", Call::Program(7, program)),
             ("deliver, again", Call::Deliver(event(2))),
@@ -274,7 +276,7 @@ mod calls {
     }
 
     /// The even ones have started at the clock, the odd ones come later, each on a control that an
-    /// even one holds.
+    /// even one holds. The even ones might have begun sooner.
     fn event(index: usize) -> Event {
         let started = index.is_multiple_of(2);
         let index = index as u32;
@@ -285,6 +287,7 @@ mod calls {
             creation: index,
             start: if started { 9_000 } else { COMING } + index,
             duration: if started { 11_000 } else { 2_000 },
+            randomize_start: if started { -600 } else { 600 },
             ..Event::default()
         }
     }
@@ -314,18 +317,28 @@ mod calls {
         let Ok(fast) = schedule(before) else {
             return println!("{held:4}  {name}: the oracle refuses the state");
         };
+        let returned = match by_both(&fast, call) {
+            Ok(returned) => returned,
+            Err(difference) => return println!("{held:4}  {name}: {difference}"),
+        };
         let image = fast.to_image();
         let mut lent = vec![0; call.room()];
-        let returned = call.make(&mut image.clone(), &mut lent);
-        if returned != by_fast(&mut fast.clone(), call) {
-            return println!("{held:4}  {name}: C returned {returned}, Fast another number");
-        }
         let c = best(&image, |image| call.make(image, &mut lent)) - nothing;
         let loaded = best(&image, |image| through_image(image, call)) - nothing;
         let alone = best(&fast, |fast| by_fast(fast, call)) - nothing;
         let (to_loaded, to_alone) = (c / loaded, c / alone);
         print!("{held:4}  {name:28} {returned:4}  {c:7.0}  {loaded:7.0}  {to_loaded:5.2}");
         println!("  {alone:6.0}  {to_alone:5.1}");
+    }
+
+    /// The number that both sides return, if they return and write the same.
+    fn by_both(fast: &Fast, call: &Call) -> Outcome<i32> {
+        let mut dice = Dice::new(0);
+        let image = Lent::holding(&mut dice, &fast.to_image());
+        let before = Seen::before(call, &image, &mut dice);
+        let wanted = before.clone().by_oracle(&mut fast.clone(), call);
+        let found = before.clone().through_c(call);
+        compare(&before, &wanted, &found).map(|()| found.returned)
     }
 
     fn through_image(image: &mut Vec<u8>, call: &Call) -> i32 {
@@ -345,7 +358,7 @@ mod calls {
             Call::Cancel(id) => fast.cancel(id).map(i32::from),
             Call::Clock(reading, room) => fast.set_clock(reading, room).map(|r| r.len() as i32),
             Call::Ask(control, _) => fast.ask(control).map(answer_number),
-            Call::List(room) => fast.list(room / ENTRY_BYTES).map(|r| r.len() as i32),
+            Call::List(room) => fast.list(room / RECORD_BYTES).map(|r| r.len() as i32),
         };
         number.unwrap_or_else(|refusal| -i32::from(refusal))
     }

@@ -4,20 +4,22 @@ use std::io::{self, Read, Write};
 use std::ops::Range;
 use std::process::ExitCode;
 
-use oracle::story::{Mark, Names, Story};
+use oracle::story::{Known, Mark, Names, Story};
 use oracle::svg::{
-    bar_paint, block, default_paint, flow, line, patterns, settle, sign, text, wide, Entry, Item,
-    LANE, RIGHT, STYLE, WIDTH,
+    bar_paint, block, default_paint, early, flow, line, patterns, settle, sign, text, wide, Entry,
+    Item, LANE, LEFT, RIGHT, STYLE, WIDTH,
 };
 
 const USAGE: &str = "\
 picture [--title TEXT] [--from T] [--to T] [--names FILE] < lines > picture.svg
 a line of FILE is `ID NAME`, `control NUMBER NAME` or `program NUMBER NAME`";
 
-const LEFT: f64 = 156.0;
 const PLOT: f64 = RIGHT - LEFT;
-/// The heights of a band's strip and of the space between bands.
-const STRIP: f64 = 30.0;
+/// The heights of bars, of the least space above and below them, of a lane of thin lines above
+/// them, and of the space between bands.
+const BAR: f64 = 22.0;
+const RIM: f64 = 4.0;
+const THIN_LANE: f64 = 7.0;
 const GAP: f64 = 12.0;
 /// From this span on the ticks have hours.
 const HOURLY: u64 = 7_200;
@@ -143,7 +145,7 @@ impl Drawing<'_> {
         }
         let axis = self.axis(top, y);
         let (programs, y) = flow(&self.program_legend(), y + 60.0);
-        let (signs, height) = flow(&sign_legend(), y);
+        let (signs, height) = flow(&self.sign_legend(), y);
         let title = text(20.0, 28.0, "title", title);
         let patterns = patterns();
         format!(
@@ -157,20 +159,25 @@ impl Drawing<'_> {
     /// Draws a control's band with its marks, and gives its lower end.
     fn band(&self, control: usize, top: f64, out: &mut String) -> f64 {
         let (mut above, mut below) = (self.starts(control), self.losses(control));
+        let mut early = self.before_bars(control);
         let strip = top + LANE * settle(&mut above);
-        let under = strip + STRIP;
+        let bars = strip + (THIN_LANE * settle(&mut early)).max(RIM);
+        let under = bars + BAR + RIM;
         let bottom = under + LANE * settle(&mut below);
         let frame = "fill=\"none\" stroke=\"#bbb\"";
         *out += &self.title(control, strip);
-        *out += &self.defaults(control, strip);
+        *out += &self.defaults(control, strip..under);
         *out += &block(LEFT..RIGHT, strip..under, frame);
-        out.extend(self.bars(control).iter().map(|bar| self.bar(bar, strip)));
-        let over = |item: &Item| strip - LANE * (item.lane as f64 + 0.5);
-        let beneath = |item: &Item| under + LANE * (item.lane as f64 + 0.5);
-        out.extend(above.iter().map(|item| item.lead(over(item), strip)));
-        out.extend(below.iter().map(|item| item.lead(beneath(item), under)));
-        out.extend(above.iter().map(|item| item.draw(over(item))));
-        out.extend(below.iter().map(|item| item.draw(beneath(item))));
+        out.extend(self.bars(control).iter().map(|bar| self.bar(bar, bars)));
+        for (items, edge, lane) in [
+            (early, bars, -THIN_LANE),
+            (above, strip, -LANE),
+            (below, under, LANE),
+        ] {
+            let y = |item: &Item| edge + lane * (item.lane as f64 + 0.5);
+            out.extend(items.iter().map(|item| item.lead(y(item), edge)));
+            out.extend(items.iter().map(|item| item.draw(y(item))));
+        }
         bottom + GAP
     }
 
@@ -203,25 +210,41 @@ impl Drawing<'_> {
         sides.end - sides.start > width + 4.0
     }
 
-    fn bar(&self, (who, span): &Bar, strip: f64) -> String {
+    fn bar(&self, (who, span): &Bar, top: f64) -> String {
         let known = &self.story.known[*who];
-        let (id, program) = (known.event.id, known.event.program);
+        let program = known.event.program;
         let sides = self.sides(span);
         let middle = (sides.start + sides.end) / 2.0;
-        let hint = format!(
-            "event {id}, program {program}: {} to {}",
-            span.start, span.end
-        );
-        let mut out = format!("<g><title>{hint}</title>");
-        out += &block(sides, strip + 4.0..strip + STRIP - 4.0, &bar_paint(program));
+        let mut out = format!("<g><title>{}</title>", bar_hint(known, span));
+        out += &block(sides, top..top + BAR, &bar_paint(program));
         if self.fits(wide(&known.label), span) {
-            out += &text(middle, strip + 19.5, "c b halo", &known.label);
-            out += &text(middle, strip + 19.5, "c b", &known.label);
+            out += &text(middle, top + 15.5, "c b halo", &known.label);
+            out += &text(middle, top + 15.5, "c b", &known.label);
         }
         out + "</g>\n"
     }
 
-    fn defaults(&self, control: usize, strip: f64) -> String {
+    /// The thin lines before the bars. They have lanes of their own, so they hide no bar.
+    fn before_bars(&self, control: usize) -> Vec<Item<'_>> {
+        let (mut items, limit) = (Vec::new(), self.story.limit());
+        for known in &self.story.known {
+            let bar = known.with(control, limit);
+            if let Some((bar, early)) = bar.zip(self.early(known, control)) {
+                let (since, hint) = (self.scale.x(early.start), bar_hint(known, &bar));
+                let item = self.item(0, bar.start..bar.start, "", hint);
+                items.push(Item { since, ..item });
+            }
+        }
+        items
+    }
+
+    /// The moments in sight in which the event might have begun.
+    fn early(&self, known: &Known, control: usize) -> Option<Range<u64>> {
+        let span = known.early(control, self.story.limit());
+        span.filter(|span| self.scale.overlaps(span))
+    }
+
+    fn defaults(&self, control: usize, strip: Range<f64>) -> String {
         let (changes, bars) = (&self.story.defaults[control], self.bars(control));
         let next = changes.iter().skip(1).map(|change| change.0);
         let ends = next.chain([self.story.limit()]);
@@ -232,11 +255,11 @@ impl Drawing<'_> {
                 continue;
             }
             let x = self.scale.x(begin)..self.scale.x(end);
-            out += &block(x, strip..strip + STRIP, &default_paint(program));
+            out += &block(x, strip.clone(), &default_paint(program));
             let width = 0.8 * wide(&label);
             for gap in gaps(span, &bars).filter(|gap| self.fits(width, gap)) {
                 let middle = (self.scale.x(gap.start) + self.scale.x(gap.end)) / 2.0;
-                out += &text(middle, strip + 19.0, "s c", &label);
+                out += &text(middle, strip.end - 11.0, "s c", &label);
             }
         }
         out
@@ -250,6 +273,7 @@ impl Drawing<'_> {
                 0
             },
             x: self.scale.x(span.start),
+            since: self.scale.x(span.start),
             until: self.scale.x(span.end),
             label,
             hint,
@@ -290,24 +314,33 @@ impl Drawing<'_> {
             let label = if held { "" } else { &known.label };
             items.push(self.item(mark.code, mark.time..mark.time, label, self.row(mark)));
         }
-        for known in &self.story.known {
-            let span = known.without(control, limit);
-            let Some(span) = span.filter(|span| self.scale.overlaps(span)) else {
-                continue;
-            };
-            let (id, begin, end) = (known.event.id, span.start, span.end);
-            let code = if known.superseded(control, begin) {
-                7
-            } else {
-                0
-            };
-            let hint = match code {
-                7 => format!("{begin} {id} 7, without control {control} to {end}"),
-                _ => format!("event {id} without control {control} from {begin} to {end}"),
-            };
-            items.push(self.item(code, span, &known.label, hint));
-        }
+        let known = self.story.known.iter();
+        items.extend(known.filter_map(|known| self.waiting(known, control)));
         items
+    }
+
+    /// Who goes on without the control. If it never held it, its start is here.
+    fn waiting<'a>(&self, known: &'a Known, control: usize) -> Option<Item<'a>> {
+        let limit = self.story.limit();
+        let span = known.without(control, limit)?;
+        let (id, begin, end) = (known.event.id, span.start, span.end);
+        let (code, mut hint) = if known.superseded(control, begin) {
+            let hint = format!("{begin} {id} 7, without control {control} to {end}");
+            (7, hint)
+        } else {
+            let hint = format!("event {id} without control {control} from {begin} to {end}");
+            (0, hint)
+        };
+        let mut since = begin;
+        if known.with(control, limit).is_none() {
+            since = known.event.earliest_start();
+            hint += &format!(", earliest start {since}");
+        }
+        let item = Item {
+            since: self.scale.x(since),
+            ..self.item(code, span, &known.label, hint)
+        };
+        self.scale.overlaps(&(since..end)).then_some(item)
     }
 
     fn marks(&self, control: usize) -> impl Iterator<Item = &Mark> {
@@ -373,6 +406,41 @@ impl Drawing<'_> {
             format!("{key}{name} (primacy {primacy})"),
         )
     }
+
+    /// The signs, and the lines that there are.
+    fn sign_legend(&self) -> Vec<Entry> {
+        let meanings = [
+            (2, "start"),
+            (3, "end"),
+            (7, "superseded"),
+            (6, "cancelled"),
+        ];
+        let signs = meanings.map(|(code, meaning)| (sign(code, 9.0, 0.0), 18.0, meaning.into()));
+        let wait = line((0.0, 0.0), (30.0, 0.0), "wait") + &line((30.0, -3.0), (30.0, 3.0), "axis");
+        let read = line((4.0, -5.0), (4.0, 5.0), "read");
+        let mut entries = signs.to_vec();
+        entries.push((wait, 30.0, "its period goes on without the control".into()));
+        if self.shows_early() {
+            let meaning = "from its earliest start to its start";
+            entries.push((early(1.0..30.0, 0.0, true), 30.0, meaning.into()));
+        }
+        entries.push((read, 8.0, "clock reading".into()));
+        entries
+    }
+
+    fn shows_early(&self) -> bool {
+        let shown = |control| {
+            let mut known = self.story.known.iter();
+            known.any(|known| self.early(known, control).is_some())
+        };
+        self.story.controls().any(shown)
+    }
+}
+
+fn bar_hint(known: &Known, span: &Range<u64>) -> String {
+    let (id, program) = (known.event.id, known.event.program);
+    let (begin, end, earliest) = (span.start, span.end, known.event.earliest_start());
+    format!("event {id}, program {program}: {begin} to {end}, earliest start {earliest}")
 }
 
 /// The parts of a span that no bar covers. The bars go by time.
@@ -382,22 +450,4 @@ fn gaps(span: Range<u64>, bars: &[Bar]) -> impl Iterator<Item = Range<u64>> + '_
     let ends = bars.iter().map(|bar| bar.1.start).chain([end]);
     let gaps = begins.zip(ends).map(move |(a, b)| a.max(start)..b.min(end));
     gaps.filter(|gap| gap.start < gap.end)
-}
-
-// The legend.
-
-fn sign_legend() -> Vec<Entry> {
-    let meanings = [
-        (2, "start"),
-        (3, "end"),
-        (7, "superseded"),
-        (6, "cancelled"),
-    ];
-    let signs = meanings.map(|(code, meaning)| (sign(code, 9.0, 0.0), 18.0, meaning.into()));
-    let wait = line((0.0, 0.0), (30.0, 0.0), "wait") + &line((30.0, -3.0), (30.0, 3.0), "axis");
-    let read = line((4.0, -5.0), (4.0, 5.0), "read");
-    let mut entries = signs.to_vec();
-    entries.push((wait, 30.0, "its period goes on without the control".into()));
-    entries.push((read, 8.0, "clock reading".into()));
-    entries
 }

@@ -6,8 +6,9 @@ use crate::event::CONTROLS;
 use crate::generate::generate;
 use crate::image::{self, Image, IMAGE_BYTES};
 use crate::random::Dice;
+use crate::spread::Spread;
 use crate::states::random_state;
-use crate::{decode, Calls, Event, Fast, Frame, Program, Record, Scheduler};
+use crate::{decode, Calls, Entry, Event, Fast, Frame, Program, Scheduler};
 
 use super::support::{event, program, rows_to};
 
@@ -19,7 +20,7 @@ fn one_program() -> [Option<Program>; 8] {
 
 /// An image at clock 5100 whose only event started at 5000.
 fn base() -> Image {
-    let record = Record {
+    let entry = Entry {
         event: event(7),
         effective_start: 5_000,
         held: 1,
@@ -28,7 +29,7 @@ fn base() -> Image {
     Image {
         clock: 5_100,
         programs: one_program(),
-        records: vec![record],
+        entries: vec![entry],
     }
 }
 
@@ -62,11 +63,11 @@ fn fresh_is_zero() {
 fn head_and_program_rules() {
     assert!(accepts(|_| ()));
     assert!(accepts(|i| {
-        i.records.clear();
+        i.entries.clear();
         i.clock = 9_000_000_000;
     }));
     assert!(!accepts(|i| {
-        i.records.clear();
+        i.entries.clear();
         i.clock = 9_000_000_001;
     }));
     assert!(!accepts_bytes(|b| b[8] = 0));
@@ -85,21 +86,21 @@ fn head_and_program_rules() {
 
 #[test]
 fn event_rules() {
-    let first = |change: fn(&mut Record)| accepts(|image| change(&mut image.records[0]));
-    assert!(!first(|r| r.event.program = 1));
-    assert!(!first(|r| r.event.program = 8));
-    assert!(!first(|r| r.event.controls = 0));
-    assert!(!first(|r| r.event.start_draw = 1));
-    assert!(first(|r| r.effective_start = 5_100));
-    assert!(!first(|r| r.effective_start = 4_999));
-    assert!(!first(|r| r.effective_start = 5_101));
-    assert!(first(|r| (r.effective_start, r.held) = (5_101, 0)));
-    assert!(first(|r| (r.effective_start, r.held) = (5_599, 0)));
-    assert!(!first(|r| (r.effective_start, r.held) = (5_600, 0)));
-    assert!(first(|r| r.held = 0));
-    assert!(!first(|r| r.held = 2));
-    assert!(!first(|r| r.cancelled = true));
-    assert!(first(|r| (r.cancelled, r.held) = (true, 0)));
+    let first = |change: fn(&mut Entry)| accepts(|image| change(&mut image.entries[0]));
+    assert!(!first(|e| e.event.program = 1));
+    assert!(!first(|e| e.event.program = 8));
+    assert!(!first(|e| e.event.controls = 0));
+    assert!(!first(|e| e.event.start_draw = 1));
+    assert!(first(|e| e.effective_start = 5_100));
+    assert!(!first(|e| e.effective_start = 4_999));
+    assert!(!first(|e| e.effective_start = 5_101));
+    assert!(first(|e| (e.effective_start, e.held) = (5_101, 0)));
+    assert!(first(|e| (e.effective_start, e.held) = (5_599, 0)));
+    assert!(!first(|e| (e.effective_start, e.held) = (5_600, 0)));
+    assert!(first(|e| e.held = 0));
+    assert!(!first(|e| e.held = 2));
+    assert!(!first(|e| e.cancelled = true));
+    assert!(first(|e| (e.cancelled, e.held) = (true, 0)));
     assert!(accepts(|i| i.clock = 5_599));
     assert!(!accepts(|i| i.clock = 5_600));
 }
@@ -108,7 +109,7 @@ fn event_rules() {
 fn rules_between_events() {
     let with = |id, controls, held| {
         accepts(|image| {
-            image.records.push(Record {
+            image.entries.push(Entry {
                 event: Event {
                     controls,
                     ..event(id)
@@ -131,7 +132,7 @@ fn rules_between_events() {
 #[test]
 fn displaced_right_after_the_image() {
     let mut image = base();
-    image.records.push(Record {
+    image.entries.push(Entry {
         event: Event {
             creation: 900,
             start: 5_101,
@@ -151,7 +152,7 @@ fn displaced_right_after_the_image() {
 #[test]
 fn a_started_event_gains_nothing() {
     let mut image = base();
-    image.records.push(Record {
+    image.entries.push(Entry {
         event: Event {
             creation: 900,
             duration: 700,
@@ -178,20 +179,23 @@ fn random_image(dice: &mut Dice) -> Image {
     ids.sort();
     ids.dedup();
     let mut free = u32::MAX;
-    let records = ids
+    let entries = ids
         .into_iter()
-        .filter_map(|id| random_record(dice, id, clock, &mut free));
-    let records = records.collect();
+        .filter_map(|id| random_entry(dice, id, clock, &mut free));
+    let entries = entries.collect();
     Image {
         clock,
         programs,
-        records,
+        entries,
     }
 }
 
-fn random_record(dice: &mut Dice, id: u64, clock: u64, free: &mut u32) -> Option<Record> {
+fn random_entry(dice: &mut Dice, id: u64, clock: u64, free: &mut u32) -> Option<Entry> {
     let early = clock == 0 && dice.chance(1, 2);
-    let draw = if early { -3_600 } else { 0 };
+    let (randomize_start, start_draw) = match early {
+        true => (-3_600, -3_600),
+        false => (dice.pick(&[0, 0, 9, -9, 3_600, -3_600]), 0),
+    };
     let event = Event {
         id,
         program: dice.below(8) as u8,
@@ -199,8 +203,8 @@ fn random_record(dice: &mut Dice, id: u64, clock: u64, free: &mut u32) -> Option
         creation: dice.below(3) as u32,
         start: 3_600 + dice.below(50) as u32,
         duration: 1 + dice.below(60) as u32,
-        randomize_start: draw,
-        start_draw: draw,
+        randomize_start,
+        start_draw,
         ..Event::default()
     };
     let length = event.effective_end() - event.drawn_start();
@@ -223,6 +227,7 @@ fn lines_after(seed: u64, clock: u64) -> Vec<Vec<u8>> {
 fn states_that_no_run_reaches_run_on() {
     let mut dice = Dice::new(41);
     let mut loaded = 0;
+    let mut spread = Spread::default();
     for seed in 0..4_000 {
         let image = random_image(&mut dice);
         let bytes = image::write(&image);
@@ -231,12 +236,14 @@ fn states_that_no_run_reaches_run_on() {
         let mut naive = Naive::from_image(&bytes).expect("an image");
         assert_eq!(history.to_image(), bytes);
         assert_eq!(fast.to_image(), bytes);
-        loaded += image.records.len();
+        loaded += image.entries.len();
+        spread.count_all(&history.list(48).expect("a listing"));
         for line in lines_after(seed, image.clock) {
             step_all(&mut history, &mut fast, &mut naive, &line, seed);
         }
     }
     assert!(loaded > 10_000, "{loaded}");
+    assert!(spread.is_wide(), "{spread}");
 }
 
 fn step_all(history: &mut Scheduler, fast: &mut Fast, naive: &mut Naive, line: &[u8], seed: u64) {
@@ -249,6 +256,9 @@ fn step_all(history: &mut Scheduler, fast: &mut Fast, naive: &mut Naive, line: &
     let image = history.to_image();
     assert_eq!(image, fast.to_image(), "seed {seed}");
     assert_eq!(image, naive.to_image(), "seed {seed}");
+    let listing = history.list(48);
+    assert_eq!(listing, fast.list(48), "seed {seed}");
+    assert_eq!(listing, naive.list(48), "seed {seed}");
 }
 
 /// Storing and loading between any two calls changes nothing.
@@ -266,6 +276,7 @@ fn image_between_calls_changes_nothing() {
             bytes = loaded.to_image();
             assert_eq!(out, again, "seed {seed}");
             assert_eq!(bytes, kept.to_image(), "seed {seed}");
+            assert_eq!(loaded.list(48), kept.list(48), "seed {seed}");
         }
     }
 }
@@ -278,7 +289,7 @@ fn accepted_images_come_back() {
     for _ in 0..20_000 {
         let image = random_image(&mut dice);
         let mut bytes = image::write(&image);
-        let used = 57 + 46 * image.records.len() as u64;
+        let used = 57 + 46 * image.entries.len() as u64;
         let at = dice.below(used + 4) as usize;
         bytes[at] = dice.pick(&[0, 1, 2, 255, dice.clone().roll() as u8]);
         match Scheduler::from_image(&bytes) {

@@ -1,8 +1,10 @@
 mod compare;
+mod earliest;
 mod images;
 mod lines;
 mod marks;
 mod naive;
 mod pairs;
 mod refusals;
+mod story;
 mod support;

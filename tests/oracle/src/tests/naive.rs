@@ -2,7 +2,7 @@
 //! types with the schedulers that it is compared with.
 
 use crate::image::{self, Image};
-use crate::{Answer, Calls, Event, Program, Record, Row};
+use crate::{Answer, Calls, Entry, Event, Program, Record, Row};
 
 #[derive(Clone, Debug)]
 struct Held {
@@ -46,6 +46,16 @@ fn end(event: &Event) -> i64 {
     drawn_start(event) + i64::from(event.duration) + i64::from(event.duration_draw)
 }
 
+fn earliest_start(event: &Event) -> i64 {
+    let sent = i64::from(event.start);
+    let moved = sent + i64::from(event.randomize_start);
+    if moved < sent {
+        moved
+    } else {
+        sent
+    }
+}
+
 fn wrong_draw(draw: i16, randomisation: i16) -> bool {
     let (draw, randomisation) = (i32::from(draw), i32::from(randomisation));
     if !(-3_600..=3_600).contains(&randomisation) {
@@ -75,8 +85,8 @@ impl Naive {
         for (number, slot) in image.programs.iter().enumerate() {
             naive.programs.extend(slot.map(|p| (number as u8, p)));
         }
-        for record in &image.records {
-            let held = naive.take_in(record);
+        for entry in &image.entries {
+            let held = naive.take_in(entry);
             naive.events.push(held);
         }
         Some(naive)
@@ -90,24 +100,24 @@ impl Naive {
         image::write(&Image {
             clock: self.clock as u64,
             programs,
-            records: self.records(),
+            entries: self.entries(),
         })
     }
 
-    fn records(&self) -> Vec<Record> {
-        let mut records: Vec<Record> = self.events.iter().map(record).collect();
-        records.sort_by_key(|record| record.event.id);
-        records
+    fn entries(&self) -> Vec<Entry> {
+        let mut entries: Vec<Entry> = self.events.iter().map(entry).collect();
+        entries.sort_by_key(|entry| entry.event.id);
+        entries
     }
 
-    fn take_in(&self, record: &Record) -> Held {
+    fn take_in(&self, entry: &Entry) -> Held {
         Held {
-            event: record.event,
-            primacy: self.program(record.event.program).map_or(0, |p| p.primacy),
-            start: record.effective_start as i64,
-            end: end(&record.event),
-            holds: std::array::from_fn(|control| record.held & 1 << control != 0),
-            cancelled: record.cancelled,
+            event: entry.event,
+            primacy: self.program(entry.event.program).map_or(0, |p| p.primacy),
+            start: entry.effective_start as i64,
+            end: end(&entry.event),
+            holds: std::array::from_fn(|control| entry.held & 1 << control != 0),
+            cancelled: entry.cancelled,
         }
     }
 
@@ -228,7 +238,7 @@ impl Calls for Naive {
         if self.events.len() >= 48 {
             return Err(10);
         }
-        let held = self.take_in(&Record {
+        let held = self.take_in(&Entry {
             event: *event,
             effective_start: drawn_start(event).max(self.clock + 1) as u64,
             held: 0,
@@ -292,13 +302,17 @@ impl Calls for Naive {
         if self.events.len() > room {
             return Err(13);
         }
-        Ok(self.records())
+        let record = |entry: Entry| Record {
+            entry,
+            earliest_start: earliest_start(&entry.event) as u64,
+        };
+        Ok(self.entries().into_iter().map(record).collect())
     }
 }
 
-fn record(held: &Held) -> Record {
+fn entry(held: &Held) -> Entry {
     let bit = |control: usize| u32::from(held.holds[control]) << control;
-    Record {
+    Entry {
         event: held.event,
         effective_start: held.start as u64,
         held: (0..32).map(bit).sum(),

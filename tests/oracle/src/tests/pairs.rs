@@ -2,6 +2,7 @@
 
 use std::collections::{BTreeMap, BTreeSet};
 
+use super::support::listed;
 use crate::calls::lines_of;
 use crate::pair::pair;
 use crate::{decode, Answer, Calls, Event, Frame, Record, Row, Scheduler};
@@ -52,9 +53,7 @@ fn follow(calls: &mut Scheduler, frame: Frame, premise: &mut Premise, rows: &mut
         }
         Frame::Cancel(id) => {
             if calls.cancel(id) == Ok(6) {
-                let held = calls.list(48).expect("a listing");
-                let record = held.iter().find(|r| r.event.id == id);
-                let event = record.expect("a held event").event;
+                let event = listed(calls, id).entry.event;
                 premise.cancellations.insert(event, calls.clock());
             }
         }
@@ -76,8 +75,8 @@ fn follow(calls: &mut Scheduler, frame: Frame, premise: &mut Premise, rows: &mut
 fn assert_no_two_holders(calls: &mut Scheduler) {
     let mut seen = 0;
     for record in calls.list(48).expect("a listing") {
-        assert_eq!(seen & record.held, 0);
-        seen |= record.held;
+        assert_eq!(seen & record.entry.held, 0);
+        seen |= record.entry.held;
     }
 }
 

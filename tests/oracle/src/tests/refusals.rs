@@ -1,6 +1,6 @@
 //! Both sides of every refusal, and the order of the checks.
 
-use super::support::{each, event, holder, program, rows_to, ROOM};
+use super::support::{each, event, holder, listed, program, rows_to, ROOM};
 use crate::{Answer, Calls, Event, Fast, Scheduler};
 
 fn at_4000(calls: &mut dyn Calls) {
@@ -111,7 +111,7 @@ fn event_8_is_after_7_and_before_9() {
         assert_eq!(calls.deliver(&passed), Err(8));
         assert_eq!(calls.cancel(1), Ok(6));
         assert_eq!(calls.deliver(&event(1)), Ok(0));
-        assert!(calls.list(48).is_ok_and(|records| records[0].cancelled));
+        assert!(listed(calls, 1).entry.cancelled);
     });
 }
 
@@ -207,7 +207,7 @@ fn clock_12_before_13() {
         assert_eq!(calls.set_clock(5_600, 33), Err(13));
         assert_eq!(calls.set_clock(5_600, 0), Err(13));
         assert_eq!(calls.clock(), 4_000);
-        assert_eq!(calls.list(48).map(|records| records[0].held), Ok(0));
+        assert_eq!(listed(calls, 1).entry.held, 0);
         assert_eq!(calls.set_clock(4_999, 0), Ok(&[][..]));
         assert_eq!(calls.set_clock(5_600, 34).map(|rows| rows.len()), Ok(2));
         assert_eq!(calls.set_clock(9_000_000_000, 0), Ok(&[][..]));

@@ -1,6 +1,6 @@
 //! Short words for the tests.
 
-use crate::{Answer, Calls, Event, Fast, Program, Row, Scheduler};
+use crate::{Answer, Calls, Event, Fast, Program, Record, Row, Scheduler};
 
 use super::naive::Naive;
 
@@ -46,10 +46,14 @@ pub fn rows_to(calls: &mut dyn Calls, reading: u64) -> Vec<(u64, u64, u8)> {
         .collect()
 }
 
-pub fn effective_start(calls: &mut dyn Calls, id: u64) -> u64 {
+pub fn listed(calls: &mut dyn Calls, id: u64) -> Record {
     let records = calls.list(48).expect("an accepted listing");
-    let record = records.iter().find(|record| record.event.id == id);
-    record.expect("a held event").effective_start
+    let record = records.iter().find(|record| record.entry.event.id == id);
+    *record.expect("a held event")
+}
+
+pub fn effective_start(calls: &mut dyn Calls, id: u64) -> u64 {
+    listed(calls, id).entry.effective_start
 }
 
 pub fn holder(calls: &mut dyn Calls, control: u8) -> Option<u64> {

@@ -26,14 +26,15 @@ loop-holds c =
 
 loop-again : tie.Need-loop-again Inv-loop μ-loop
 loop-again c =
-    let l = c .before .before .loop in
-    let d = c .before .before .before .before in
+    let turn = c .before .before in
+    let l = turn .before .loop in
+    let d = turn .before .before .before in
     let s = d .args .t1 in (
       omega arith,
       l .inv .1,
       l .inv .2,
       simp length-set (l .inv .3),
-      recorded-more s (d .pre) (l .i) _ (omega arith) (l .inv .4),
+      recorded-more s (d .pre) (l .i) _ (omega arith) (l .inv .4) (c .of .ensures),
     )
 
 returns : tie.Need-returns Inv-loop μ-loop
@@ -53,6 +54,7 @@ records-of-spec =
     loop-holds
     (λ c. search needs)
     (λ c. search needs)
+    (λ c κs. search needs)
     (λ c. search needs)
     (λ c. search needs)
     (λ c. search needs)
