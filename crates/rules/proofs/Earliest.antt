@@ -1,6 +1,5 @@
 -- A drawn start grows with its draw, and a draw lies between 0 and the randomisation: so the least of the drawn starts is at one of these two.
-use mathlib.Core.Path.{_≡_, refl, sym, ap, _∙_}
-use mathlib.Core.Logic.{_↔_}
+use mathlib.Core.Path.{_≡_, refl, ap}
 use Prim.Native.Nat.{ℕ, _+_, _-_, _≤_, min, max}
 use mathlib.Core.Bool.{Bool, true, false, not, _||_}
 use native.Mathlib.Omega.{arith}
@@ -18,10 +17,14 @@ use Rattle.rules.specs.Clauses.{withDraw, InRange, LeastStart, EarliestC
 use Rattle.rules.proofs.Tests.{either-false, each-true}
 use Rattle.rules.proofs.SoundState.{sound-view}
 
+-- the randomisation of a start, moved up by 32,768
+abbrev spread : Event → ℕ
+spread e = lift (e .«randomize_start»)
+
 -- what passing 7 says of a start, its randomisation and its draw
 record Passes (e : Event) : Type 0 where
   start : 3600 ≤ e .start
-  randomisation : 32768 ≤ lift (e .«randomize_start») + 3600
+  randomisation : 32768 ≤ spread e + 3600
   draw : InRange e (e .«start_draw»)
 
 passes : (e : Event) → malformed e ≡ false → Passes e
@@ -34,35 +37,29 @@ passes e w =
     let r₄ = either-false (randomises || outside (e .«randomize_duration»)) _ (either-false draws _ (either-false (outOfRange e) _ w .0) .0) in
     let r₃ = either-false lasts _ (either-false randomises _ (r₄ .0) .0) in
     let r₁ = either-false (eqb (e .controls) 0) _ (either-false starts _ (r₃ .0) .0) in
-    let moved = lift (e .«randomize_start») in
     record {
       start = ltb-false (e .start) 3600 (r₁ .1);
-      randomisation = omega (arith, ltb-false moved (32768 - 3600) (either-false (ltb moved (32768 - 3600)) _ (r₃ .1) .0));
+      randomisation = omega (arith, ltb-false (spread e) (32768 - 3600) (either-false (ltb (spread e) (32768 - 3600)) _ (r₃ .1) .0));
       draw = not-false (drawn (e .«randomize_start») (e .«start_draw»)) (r₄ .1);
     }
 
--- a draw between 0 and the randomisation
-between : (e : Event) (d : ℕ) → min (lift (e .«randomize_start»)) 32768 ≤ lift d → lift d ≤ max (lift (e .«randomize_start»)) 32768 → InRange e d
+-- a draw is in range from the lesser of 0 and the randomisation up to the greater
+between : (e : Event) (d : ℕ) → min (spread e) 32768 ≤ lift d → lift d ≤ max (spread e) 32768 → InRange e d
 between e d p q = rw (le-leb _ _ p, le-leb _ _ q)
 
--- not below the lesser of the two
-at-least : (e : Event) (d : ℕ) → InRange e d → min (lift (e .«randomize_start»)) 32768 ≤ lift d
-at-least e d q = let least = min (lift (e .«randomize_start»)) 32768 in leb-true least (lift d) (each-true (leb least (lift d)) _ q .0)
+at-least : (e : Event) (d : ℕ) → InRange e d → min (spread e) 32768 ≤ lift d
+at-least e d q = leb-true (min (spread e) 32768) (lift d) (each-true (leb (min (spread e) 32768) (lift d)) _ q .0)
 
 least-start : (e : Event) → LeastStart e (earliestStart e)
 unfolding earliestStart drawnStart
-least-start e =
-    record {
-      not-after = λ d q. omega (arith, at-least e d q);
-      reached = by (leb (lift (e .«randomize_start»)) 32768) refl;
-    }
+least-start e = record { not-after = λ d q. omega (arith, at-least e d q); reached = by (leb (spread e) 32768) refl }
   where
-    by : (b : Bool) → leb (lift (e .«randomize_start»)) 32768 ≡ b → (d : ℕ) × InRange e d × (drawnStart (withDraw e d) ≡ earliestStart e)
-    by true p = let l = leb-true (lift (e .«randomize_start»)) 32768 p in (e .«randomize_start», between e _ (omega arith) (omega arith), omega arith)
+    by : (b : Bool) → leb (spread e) 32768 ≡ b → (d : ℕ) × InRange e d × (drawnStart (withDraw e d) ≡ earliestStart e)
+    by true p = let l = leb-true (spread e) 32768 p in (e .«randomize_start», between e _ (omega arith) (omega arith), omega arith)
     by false p =
-        let l = leb-false (lift (e .«randomize_start»)) 32768 p in
-        let none : plus (e .start) 0 ≡ min (e .start) (plus (e .start) (e .«randomize_start»)) = omega arith in
-        (0, between e 0 (omega arith) (omega arith), none)
+        let l = leb-false (spread e) 32768 p in
+        let start : plus (e .start) 0 ≡ min (e .start) (plus (e .start) (e .«randomize_start»)) = omega arith in
+        (0, between e 0 (omega arith) (omega arith), start)
 
 -- there is no other
 only-least : (e : Event) (t : ℕ) → LeastStart e t → t ≡ earliestStart e
@@ -72,21 +69,20 @@ only-least e t m =
     let there = m .reached in
     omega (arith, m .not-after (here .0) (here .1), here .2, n .not-after (there .0) (there .1), there .2)
 
-exact : (e : Event) → malformed e ≡ false → earliestStart e + 32768 ≡ min (e .start + 32768) (e .start + lift (e .«randomize_start»))
+exact : (e : Event) → malformed e ≡ false → earliestStart e + 32768 ≡ min (e .start + 32768) (e .start + spread e)
 unfolding earliestStart
 exact e w = let p = passes e w in omega arith
 
--- not after the drawn start
-not-after-drawn : (e : Event) → malformed e ≡ false → earliestStart e ≤ drawnStart e
-unfolding earliestStart drawnStart
-not-after-drawn e w = omega (arith, at-least e (e .«start_draw») (passes e w .draw))
-
+-- a draw in range begins no event before its earliest start, and a late receipt only later
 in-time : (e : Event) (receipt : ℕ) → malformed e ≡ false → periodOf e receipt .earliest ≤ periodOf e receipt .start
-unfolding effectiveStart
-in-time e receipt w = omega (arith, not-after-drawn e w)
+unfolding earliestStart drawnStart effectiveStart
+in-time e receipt w = omega (arith, at-least e (e .«start_draw») (passes e w .draw))
 
 listed-in-time : (s : Schedule) (h : Entry) → sound s ≡ true → In h (view s .entries) → recordOf h .earliest ≤ h .begins
-listed-in-time s h v m = let r = sound-view s v .entries h m in omega (arith, not-after-drawn (h .event) (r .well), r .from)
+unfolding earliestStart drawnStart
+listed-in-time s h v m =
+    let r = sound-view s v .entries h m in
+    omega (arith, at-least (h .event) (h .event .«start_draw») (passes (h .event) (r .well) .draw), r .from)
 
 carried-over : (e : Event) (receipt : ℕ) → recordOf (entry receipt e) .earliest ≡ periodOf e receipt .earliest
 carried-over e receipt = refl

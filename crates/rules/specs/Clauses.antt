@@ -1,4 +1,4 @@
--- Document 01's sentences on holding, rows and states, and document 02's, said of the definitions. Each field is one clause; all are proved (promise `clauses`).
+-- Sentences of documents 01 and 02 on times, holding, rows and states, said of the definitions. Each field is one clause; all are proved (promise `clauses`).
 -- `ps` are the programs, `ts` all events of a history, and Holds t c x says that the event x holds the control c at moment t.
 use mathlib.Core.Path.{_≡_}
 use mathlib.Core.Logic.{_↔_, _⊎_}
@@ -58,7 +58,7 @@ pub record LeastStart (e : Event) (t : ℕ) : Type 0 where
 
 -- Document 02, #101: Earliest Effective Start Time
 pub record EarliestClauses : Type 0 where
-  -- the moment at which the event might begin at the earliest, whatever is drawn
+  -- when the event might begin at the earliest: the least of the drawn starts over all start draws in range
   pub least : (e : Event) (t : ℕ) → t ≡ earliestStart e ↔ LeastStart e t
   -- the lesser of start and start + randomizeStart; of an event that passes 7 nothing is cut off
   pub exact : (e : Event) → malformed e ≡ false → earliestStart e + 32768 ≡ min (e .start + 32768) (e .start + lift (e .«randomize_start»))

@@ -25,7 +25,8 @@ effectiveEnd e = plus (drawnStart e + e .duration) (e .«duration_draw»)
 unfoldable pub effectiveStart : Event → ℕ → ℕ
 effectiveStart e receipt = max (drawnStart e) (receipt + 1)
 
--- Document 02, #101, Earliest Effective Start Time: the lesser of start and start + randomizeStart, whatever the draw and the receipt clock
+-- Document 02, #101, what clause 10.2.2.2 calls Earliest Effective Start Time: the lesser of start and start + randomizeStart.
+-- No draw and no receipt clock is in it.
 unfoldable pub earliestStart : Event → ℕ
 earliestStart e = min (e .start) (plus (e .start) (e .«randomize_start»))
 

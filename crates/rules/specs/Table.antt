@@ -46,7 +46,8 @@ table =
     -- T4: received a second before its end
     ∷ case 5599 (one ∷ []) (refused 9 ∷ []) [] [] []
     -- T5: the start drawn 300 back
-    ∷ case 4000 (drawing (minus 300) (minus 300) ∷ []) (new ∷ []) (period 4700 5300 4700 ∷ []) (row 4700 1 2 ∷ row 5300 1 3 ∷ []) (held 4700 0 1 ∷ held 5299 0 1 ∷ [])
+    ∷ case 4000 (drawing (minus 300) (minus 300) ∷ []) (new ∷ []) (period 4700 5300 4700 ∷ [])
+    (row 4700 1 2 ∷ row 5300 1 3 ∷ []) (held 4700 0 1 ∷ held 5299 0 1 ∷ [])
     -- #101: the same with a draw of 0, and received after its start; neither moves the earliest start
     ∷ case 4000 (drawing (minus 300) 0 ∷ []) (new ∷ []) (period 5000 5600 4700 ∷ []) (row 5000 1 2 ∷ row 5600 1 3 ∷ []) (held 5000 0 1 ∷ [])
     ∷ case 5100 (drawing (minus 300) (minus 300) ∷ []) (new ∷ []) (period 5101 5300 4700 ∷ []) (row 5101 1 2 ∷ row 5300 1 3 ∷ []) (held 5101 0 1 ∷ [])
@@ -54,7 +55,8 @@ table =
     ∷ case 4000 (drawing 300 300 ∷ []) (new ∷ []) (period 5300 5900 5000 ∷ []) (row 5300 1 2 ∷ row 5900 1 3 ∷ []) (held 5300 0 1 ∷ [])
     ∷ case 5100 (drawing 300 0 ∷ []) (new ∷ []) (period 5101 5600 5000 ∷ []) (row 5101 1 2 ∷ row 5600 1 3 ∷ []) (held 5101 0 1 ∷ [])
     -- #101: the least start with the greatest randomisation back
-    ∷ case 0 (eventOf 1 1 1 0 3600 600 (minus 3600) 0 (minus 1) 0 ∷ []) (new ∷ []) (period 3599 4199 0 ∷ []) (row 3599 1 2 ∷ row 4199 1 3 ∷ []) (held 3599 0 1 ∷ [])
+    ∷ case 0 (eventOf 1 1 1 0 3600 600 (minus 3600) 0 (minus 1) 0 ∷ []) (new ∷ []) (period 3599 4199 0 ∷ [])
+    (row 3599 1 2 ∷ row 4199 1 3 ∷ []) (held 3599 0 1 ∷ [])
     -- T6, both cases: a start draw beyond its randomisation, and on the other side of 0
     ∷ case 4000 (drawing (minus 300) (minus 301) ∷ []) (refused 7 ∷ []) [] [] []
     ∷ case 4000 (drawing (minus 300) 1 ∷ []) (refused 7 ∷ []) [] [] []
