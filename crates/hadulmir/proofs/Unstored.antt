@@ -4,10 +4,10 @@ use Prim.Native.Nat.{ℕ, _*_, _/_, _<_, _≤_}
 use mathlib.Core.Bool.{Bool, true, false, cond, not}
 use mathlib.Core.List.{List, [], _∷_}
 use native.Mathlib.Omega.{arith}
-use borrow.Author.Tests.{eqb-true, not-false, lt-ltb, le-ltb, leb-true, leb-false, le-leb}
+use borrow.Author.Tests.{eqb-true, not-false, lt-ltb, le-ltb}
 use denote.Enum.Declared.{tagOf}
 use types.Run.{OneOf, miss}
-use lib.Dec.{leb, ltb, eqb}
+use lib.Dec.{ltb, eqb}
 use lib.ListN.{length, take, drop, replicate, length-replicate}
 use lib.Seq.{take-at}
 use Rattle.rules.specs.declared.Answer.{Answer}
@@ -16,19 +16,18 @@ use Rattle.rules.specs.declared.Id.{Id}
 use Rattle.rules.specs.declared.Record.{Record}
 use Rattle.rules.specs.declared.Schedule.{Schedule}
 use Rattle.rules.specs.Lists.{over}
-use Rattle.rules.specs.Records.{mostEvents, idSize, idNumber, noEntry, view}
+use Rattle.rules.specs.Records.{idSize, idNumber, noEntry, view}
 use Rattle.rules.specs.Sound.{sound}
 use Rattle.rules.specs.Bytes.{big, flat, recordSize, recordBytes}
 use Rattle.rules.specs.Image.{image}
 use Rattle.rules.specs.Calls.{ask, Outcome, count, holder, numberOf, valueOf, recordOf, does, refusal, accepts, accepted, refused, call}
-use Rattle.rules.specs.Face.{Operation, asks, lists, asCall, answerBytes, idTooLong, shown, negative, lentAfter, FaceOutcome, face}
+use Rattle.rules.specs.Face.{Operation, asks, lists, asCall, answerBytes, idTooLong, shown, negative, lentAfter, face}
 use Rattle.rules.proofs.Answer.{the-type}
 use Rattle.rules.proofs.Tests.{first-not}
 use Rattle.rules.proofs.Numbers.{Bytes, big-length}
 use Rattle.rules.proofs.Images.{image-loaded}
 use Rattle.rules.proofs.SoundState.{rules, pad-view}
 use Rattle.image.specs.declared.Loaded.{Loaded}
-use Rattle.image.specs.Exchange.{listedTo}
 use Rattle.octets.specs.Octets.{putAt}
 use Rattle.octets.proofs.Fits.{put-inside}
 use Rattle.calls.specs.declared.Answered.{Answered}
@@ -120,29 +119,15 @@ module _ {l : List ℕ} {b : Loaded} (f : Formed l b) (bytes : Bytes l) (lent : 
   abbrev old : List Record
   old = replicate (length lent / recordSize) (recordOf noEntry)
 
-  short : length lent < recordSize * n → faceOf (negative 13) l lent ≡ face l lists lent
-  short h =
-      sym (face-is f lists lent (lists-short (b .schedule) e (length lent / recordSize) (omega (arith, h)) .leaves old (length-replicate (length lent / recordSize) (recordOf noEntry))) (none-fits lent))
+  pub listed-short : length lent < recordSize * n → {r : ℕ} → r ≡ negative 13 → faceOf r l lent ≡ face l lists lent
+  listed-short h p =
+      ap (λ (r : ℕ). faceOf r l lent) p
+      ∙ sym (face-is f lists lent (lists-short (b .schedule) e (length lent / recordSize) (omega (arith, h)) .leaves old (length-replicate (length lent / recordSize) (recordOf noEntry))) (none-fits lent))
 
-  fits : recordSize * n ≤ length lent → faceOf n l (over (flat recordBytes (held (b .schedule))) lent) ≡ face l lists lent
-  fits h =
+  pub listed-all : recordSize * n ≤ length lent → {m : List ℕ} → m ≡ over (flat recordBytes (held (b .schedule))) lent → faceOf n l m ≡ face l lists lent
+  listed-all h p =
       let hs = held (b .schedule) in
       let q = lists-all (b .schedule) e (length lent / recordSize) (omega (arith, h)) .leaves old (length-replicate (length lent / recordSize) (recordOf noEntry)) in
       let front : (r : List Record) → take n (over hs r) ≡ hs = λ r. take-at hs (drop (length hs) r) n (held-count (b .schedule) e) in
       let written = ap (λ (r : List Record). take n (over r old)) (front noRecords) ∙ front old in
-      ap (λ (r : List Record). faceOf n l (over (flat recordBytes r) lent)) (sym written) ∙ sym (shows f bytes lists lent q refl refl (none-fits lent))
-
-  -- what was written, and whether it was: a sound schedule has no more events than places, so only the room counts
-  pub listed : {w : Bool} {m : List ℕ} → (w, m) ≡ listedTo (b .schedule) lent → {t : Bool} → w ≡ t → {r : ℕ} → r ≡ cond t n (negative 13) → faceOf r l m ≡ face l lists lent
-  unfolding listedTo
-  listed {w} {m} q e₁ e₂ =
-      ap (λ (r : ℕ). faceOf r l m) (e₂ ∙ ap (λ (t : Bool). cond t n (negative 13)) (sym e₁))
-      ∙ ap shown-as (rw (le-leb n mostEvents (rules (b .schedule) e .count)) at q) ∙ by (leb (recordSize * n) (length lent)) refl
-    where
-      shown-as : Bool × List ℕ → FaceOutcome
-      shown-as x = faceOf (cond (x .0) n (negative 13)) l (x .1)
-
-      by : (t : Bool) → leb (recordSize * n) (length lent) ≡ t
-          → shown-as (cond {A = Bool × List ℕ} t (true, over (flat recordBytes (held (b .schedule))) lent) (false, lent)) ≡ face l lists lent
-      by true h = fits (leb-true (recordSize * n) (length lent) h)
-      by false h = short (leb-false (recordSize * n) (length lent) h)
+      ap (faceOf n l) (p ∙ ap (λ (r : List Record). over (flat recordBytes r) lent) (sym written)) ∙ sym (shows f bytes lists lent q refl refl (none-fits lent))

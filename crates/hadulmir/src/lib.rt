@@ -12,6 +12,7 @@ mod answers;
 use rules::Answer;
 use rules::Event;
 use rules::Id;
+use rules::Record;
 use rules::Schedule;
 
 // What loading returns.
@@ -185,8 +186,14 @@ pub extern "C" fn hadulmir_list(image: &[u8], records: &mut [u8]) -> u32
     if !sound::is_sound(s) {
         return answers::negative(2);
     }
-    if !image::write_records(s, records) {
+    let n = s.count;
+    if records.len() < Record::SIZE * n {
         return answers::negative(13);
     }
-    s.count as u32
+    let mut i = 0;
+    while i < n {
+        image::put_record(records, Record::SIZE * i, Record::of(s.entries[i]));
+        i += 1;
+    }
+    n as u32
 }

@@ -1,15 +1,15 @@
 -- What is read from bytes, and what is written into a buffer.
 use Prim.Native.Nat.{ℕ, _+_, _*_, _≤_, _<_}
-use mathlib.Core.Bool.{Bool, true, false, cond, _&&_}
-use mathlib.Core.List.{List, map}
+use mathlib.Core.Bool.{Bool, true, false, cond}
+use mathlib.Core.List.{List}
 use lib.Dec.{leb, eqb}
 use lib.ListN.{length}
+use Rattle.rules.specs.declared.Record.{Record}
 use Rattle.rules.specs.declared.Schedule.{Schedule}
-use Rattle.rules.specs.Lists.{over}
-use Rattle.rules.specs.Records.{mostEvents, fresh, view, pad}
-use Rattle.rules.specs.Bytes.{flat, entrySize, recordSize, recordBytes}
+use Rattle.rules.specs.Lists.{overAt}
+use Rattle.rules.specs.Records.{fresh, pad}
+use Rattle.rules.specs.Bytes.{entrySize, recordSize, recordBytes}
 use Rattle.rules.specs.Image.{imageSize, image, loaded, formed}
-use Rattle.rules.specs.Calls.{recordOf}
 use Rattle.image.specs.declared.Loaded.{Loaded}
 
 -- n marks, k bytes from one to the next, stand in a list from `at` on
@@ -29,7 +29,6 @@ readOf l = cond (formed l) (record { formed = true; schedule = loaded l }) noIma
 unfoldable pub writtenTo : Schedule → List ℕ → Bool × List ℕ
 writtenTo s l = cond (eqb (length l) imageSize) (true, image s) (false, l)
 
--- Calls, list: the records of the held events over the front of a buffer that they fit; any other as it was
-unfoldable pub listedTo : Schedule → List ℕ → Bool × List ℕ
-listedTo s l =
-    cond (leb (s .count) mostEvents && leb (recordSize * s .count) (length l)) (true, over (flat recordBytes (map recordOf (view s .entries))) l) (false, l)
+-- Calls, list, the bytes of a listed record over what stands there, if there is room for them all
+unfoldable pub putRecord : ℕ → Record → List ℕ → List ℕ
+putRecord at r l = cond (leb (at + recordSize) (length l)) (overAt at (recordBytes r) l) l

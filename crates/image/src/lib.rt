@@ -1,6 +1,6 @@
 // The image of a schedule, read and written whatever it says: whether the schedule is sound is for the calls to check.
 ghost use mathlib.Core.Path.{_≡_};
-ghost use Rattle.image.specs.Exchange.{noImage, readOf, writtenTo, listedTo};
+ghost use Rattle.image.specs.Exchange.{noImage, readOf, writtenTo, putRecord};
 
 mod reading;
 mod writing;
@@ -76,22 +76,17 @@ pub fn write(s: Schedule, out: &mut [u8]) -> bool
     true
 }
 
-// Calls, list. Writes the record of each held event over the front of a buffer; leaves one that is shorter than all of them alone and returns false, also
-// for a count that no schedule has.
-pub fn write_records(s: Schedule, out: &mut [u8]) -> bool
-    ensures { λ r. ⌜ (r, now (out .exit)) ≡ listedTo s (now (out .entry)) ⌝ }
+// Calls, list. Writes the bytes of a listed record from `at` on; leaves the slice alone if there is no room for them all.
+pub fn put_record(out: &mut [u8], at: usize, r: Record)
+    ensures { λ _. ⌜ now (out .exit) ≡ putRecord at r (now (out .entry)) ⌝ }
 {
-    let n = s.count;
-    if Schedule::EVENTS < n {
-        return false;
+    if out.len() < Record::SIZE {
+        return;
     }
-    if out.len() < Record::SIZE * n {
-        return false;
+    if out.len() - Record::SIZE < at {
+        return;
     }
-    let mut i = 0;
-    while i < n {
-        writing::put_record(out, Record::SIZE * i, Record::of(s.entries[i]));
-        i += 1;
-    }
-    true
+    let entry = r.entry;
+    writing::put_entry(out, at, entry);
+    octets::put8(out, at + Entry::SIZE, r.earliest);
 }

@@ -1,9 +1,9 @@
-// The parts of an image, written at their places, and the records of a listing.
+// The parts of an image, written at their places.
 ghost use mathlib.Core.Path.{_≡_};
 ghost use Prim.Native.Nat.{_+_, _≤_};
 ghost use lib.ListN.{length};
 ghost use Rattle.rules.specs.Lists.{overAt};
-ghost use Rattle.rules.specs.Bytes.{flat, entrySize, entryBytes, recordSize, recordBytes};
+ghost use Rattle.rules.specs.Bytes.{flat, entrySize, entryBytes};
 ghost use Rattle.rules.specs.Image.{programSize, programsAt, entriesAt, imageSize, programBytes};
 use crate::BEGINS;
 use crate::DEFAULTS;
@@ -11,11 +11,10 @@ use crate::HELD;
 use crate::PRIMACY;
 use rules::Entry;
 use rules::Program;
-use rules::Record;
 use rules::Schedule;
 
 // The bytes of an event entry.
-fn put_entry(out: &mut [u8], at: usize, h: Entry)
+pub(crate) fn put_entry(out: &mut [u8], at: usize, h: Entry)
     requires { ⌜ at + entrySize ≤ length (now out) ⌝ }
     ensures { λ _. ⌜ now (out .exit) ≡ overAt at (entryBytes h) (now (out .entry)) ⌝ }
 {
@@ -58,14 +57,4 @@ pub(crate) fn put_entries(out: &mut [u8], entries: [Entry; Schedule::EVENTS])
         put_entry(out, Schedule::ENTRIES_AT + Entry::SIZE * i, entries[i]);
         i += 1;
     }
-}
-
-// The bytes of a listed record.
-pub(crate) fn put_record(out: &mut [u8], at: usize, r: Record)
-    requires { ⌜ at + recordSize ≤ length (now out) ⌝ }
-    ensures { λ _. ⌜ now (out .exit) ≡ overAt at (recordBytes r) (now (out .entry)) ⌝ }
-{
-    let entry = r.entry;
-    put_entry(out, at, entry);
-    octets::put8(out, at + Entry::SIZE, r.earliest);
 }

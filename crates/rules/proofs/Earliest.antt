@@ -58,7 +58,7 @@ least-start e = record { not-after = λ d q. omega (arith, at-least e d q); reac
     by true p = let l = leb-true (spread e) 32768 p in (e .«randomize_start», between e _ (omega arith) (omega arith), omega arith)
     by false p =
         let l = leb-false (spread e) 32768 p in
-        let start : plus (e .start) 0 ≡ min (e .start) (plus (e .start) (e .«randomize_start»)) = omega arith in
+        let start : plus (e .start) 0 ≡ earliestStart e = omega arith in
         (0, between e 0 (omega arith) (omega arith), start)
 
 -- there is no other
