@@ -26,7 +26,7 @@ use Rattle.rules.proofs.Answer.{the-type}
 use Rattle.rules.proofs.Tests.{first-not}
 use Rattle.rules.proofs.Numbers.{Bytes, big-length}
 use Rattle.rules.proofs.Images.{image-loaded}
-use Rattle.rules.proofs.SoundState.{rules, pad-view}
+use Rattle.rules.proofs.SoundState.{pad-view}
 use Rattle.image.specs.declared.Loaded.{Loaded}
 use Rattle.octets.specs.Octets.{putAt}
 use Rattle.octets.proofs.Fits.{put-inside}

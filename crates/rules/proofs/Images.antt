@@ -81,7 +81,7 @@ module _ (s : Schedule) (w : whole s ≡ true) where
   unfolding image big
   at-programs = refl
 
-  pub at-entries : drop entriesAt (image s) ≡ flat entryBytes (s .entries) ++ []
+  at-entries : drop entriesAt (image s) ≡ flat entryBytes (s .entries) ++ []
   at-entries =
       sym (drop-drop (mostPrograms * programSize) programsAt (image s)) ∙ ap (drop (mostPrograms * programSize)) at-programs
       ∙ drop-at (flat programBytes (s .programs)) (flat entryBytes (s .entries)) (mostPrograms * programSize) programs-length ∙ sym (append-nil (flat entryBytes (s .entries)))

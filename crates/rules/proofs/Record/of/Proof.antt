@@ -1,8 +1,6 @@
 -- The entry, and the time that its event's method gives.
 use mathlib.Core.Path.{ap}
-use Prim.Native.Nat.{ℕ}
 use borrow.Author.Needs.{needs}
-use Rattle.rules.specs.declared.Record.{Record}
 use Rattle.rules.proofs.Record.of.Statement.{statement}
 use Rattle.rules.proofs.Record.of.Tie as tie
 
