@@ -1,6 +1,6 @@
 /*
- * A small host: two events that overlap, a randomised start, a clock that moves in steps, a loss of power, refusals. The lines "time mRID code"
- * are those of document 01's worked example, in its order, its ids being mRIDs; only those of event 3 and of the late event 4 are added.
+ * A small host: two events that overlap, a randomised start, a loss of power, refusals, a user who opts out and in again. The lines "time mRID
+ * code" are those of document 01's worked example, in its order, its ids being mRIDs; only those of event 3 and of the late event 4 are added.
  */
 #include <inttypes.h>
 #include <stdio.h>
@@ -32,34 +32,40 @@ struct state {
  */
 static struct state now, next, stored;
 
-static void store(void)
-{
-    stored = next;
-    now = next;
-}
-
 /* What a host would send to the response server. */
-static void post(uint64_t time, uint64_t id, uint8_t code)
+static void post(struct hadulmir_row row)
 {
-    printf("%" PRIu64 " %s %u\n", time, next.known[id].mrid, (unsigned)code);
+    printf("%" PRIu64 " %s %u\n", row.time, next.known[row.id].mrid, (unsigned)row.code);
 }
 
-static void refused(const char *what, int32_t returned)
+/* Whether a call was refused, which is printed. */
+static int refused(const char *what, int32_t returned)
 {
-    printf("%s refused with number %" PRId32 ": %s\n", what, -returned, hadulmir_refusal_text(returned));
+    if (hadulmir_is_refusal(returned))
+        printf("%s refused with number %" PRId32 ": %s\n", what, -returned, hadulmir_refusal_text(returned));
+    return hadulmir_is_refusal(returned);
+}
+
+/* After a call on `next` about one event: what it answered is the code to post, or 0 for none; some refusals have a code too. */
+static void respond(const char *what, uint64_t id, int32_t returned)
+{
+    uint8_t code = refused(what, returned) ? hadulmir_response_for(returned) : (uint8_t)returned;
+
+    if (code != 0)
+        post((struct hadulmir_row){hadulmir_clock_of(next.image), id, code});
+    if (!hadulmir_is_refusal(returned))
+        stored = now = next;
 }
 
 /* At random between 0 and the bound, both included. Beyond an hour the delivery is refused, whatever the draw. */
 static int32_t draw(int32_t bound)
 {
     static uint32_t state = 2030; /* in place of the device's source of random numbers, so that the example always prints the same */
-    int32_t drawn;
 
     if (bound < -3600 || bound > 3600)
         return 0;
     state = state * 1664525u + 1013904223u;
-    drawn = (int32_t)(state >> 16) % (bound < 0 ? 1 - bound : 1 + bound);
-    return bound < 0 ? -drawn : drawn;
+    return (int32_t)(state >> 16) % (bound < 0 ? 1 - bound : 1 + bound) * (bound < 0 ? -1 : 1);
 }
 
 /* Gives the event its id and its draws: those that it has, or new ones. Whether there is room for it. */
@@ -83,27 +89,23 @@ static int know(struct hadulmir_event *event, const char *mrid)
     return 1;
 }
 
-/* An event as it was received, of program 0 for control 0. Accepted, its answer is the code to post, or 0 for none. */
-static void deliver(const char *mrid, uint32_t created, uint32_t start, uint32_t duration, int32_t randomize_start)
+/* An event as it was received, of program 0 for control 0; `bound` is that of its start. */
+static void deliver(const char *mrid, uint32_t created, uint32_t start, uint32_t duration, int32_t bound)
 {
-    struct hadulmir_event event = {.program = 0, .controls = 0x1, .created = created, .start = start, .duration = duration,
-                                   .randomize_start = randomize_start};
-    int32_t returned;
-    uint8_t code;
+    struct hadulmir_event event = {.controls = 0x1, .created = created, .start = start, .duration = duration, .randomize_start = bound};
 
     next = now;
-    if (!know(&event, mrid)) {
+    if (know(&event, mrid))
+        respond("event", event.id, hadulmir_deliver_event(next.image, sizeof next.image, &event));
+    else
         printf("event %s left out: the table is full\n", mrid);
-        return;
-    }
-    returned = hadulmir_deliver_event(next.image, sizeof next.image, &event);
-    if (hadulmir_is_refusal(returned))
-        refused("event", returned);
-    code = hadulmir_is_refusal(returned) ? hadulmir_response_for(returned) : (uint8_t)returned;
-    if (code != 0)
-        post(hadulmir_clock_of(next.image), event.id, code);
-    if (!hadulmir_is_refusal(returned))
-        store();
+}
+
+/* The user presses the button beside a listed event: out of it, or in again. */
+static void press(uint64_t id, int out)
+{
+    next = now;
+    respond("choice", id, (out ? hadulmir_opt_out : hadulmir_opt_in)(next.image, sizeof next.image, id));
 }
 
 /* Set the clock and post every row that this gives. Rows go into a buffer that fits them all, so that only the reading can be refused. */
@@ -114,15 +116,11 @@ static void set_clock(uint64_t reading)
 
     next = now;
     count = hadulmir_set_clock(next.image, sizeof next.image, reading, rows, sizeof rows);
-    if (hadulmir_is_refusal(count)) {
-        refused("clock", count);
+    if (refused("clock", count))
         return;
-    }
-    for (i = 0; i < count; i++) {
-        struct hadulmir_row row = hadulmir_row_at(rows, (size_t)i);
-        post(row.time, row.id, row.code);
-    }
-    store();
+    for (i = 0; i < count; i++)
+        post(hadulmir_row_at(rows, (size_t)i));
+    stored = now = next;
 }
 
 /* What the control should do now. The value itself is found by the host, from the event or from the program. */
@@ -131,13 +129,11 @@ static void ask(uint8_t control)
     uint8_t id[HADULMIR_ID_SIZE];
     int32_t asked = hadulmir_ask(now.image, sizeof now.image, control, id, sizeof id);
 
-    if (hadulmir_is_refusal(asked))
-        refused("question", asked);
-    else if (asked == HADULMIR_EVENT)
+    if (asked == HADULMIR_EVENT)
         printf("%u event %s\n", (unsigned)control, now.known[hadulmir_id_at(id)].mrid);
     else if (asked == HADULMIR_NOBODY)
         printf("%u none\n", (unsigned)control);
-    else
+    else if (!refused("question", asked))
         printf("%u default %" PRId32 "\n", (unsigned)control, asked - HADULMIR_DEFAULT);
 }
 
@@ -145,34 +141,30 @@ static void ask(uint8_t control)
 static void list(void)
 {
     static uint8_t records[HADULMIR_RECORDS_SIZE];
-    int32_t count = hadulmir_list(now.image, sizeof now.image, records, sizeof records);
-    int32_t i;
+    int32_t count = hadulmir_list(now.image, sizeof now.image, records, sizeof records), i;
 
-    if (hadulmir_is_refusal(count)) {
-        refused("listing", count);
+    if (refused("listing", count))
         return;
-    }
     printf("%" PRId32 " held at %" PRIu64 "\n", count, hadulmir_clock_of(now.image));
     for (i = 0; i < count; i++) {
         struct hadulmir_record record = hadulmir_record_at(records, (size_t)i);
-        printf("  event %s from %" PRIu64 " to %" PRIu64 ", at the earliest %" PRIu64 ", holds %08" PRIX32 "%s\n",
+        printf("  event %s from %" PRIu64 " to %" PRIu64 ", at the earliest %" PRIu64 ", holds %08" PRIX32 "%s%s\n",
                now.known[record.entry.event.id].mrid, record.entry.effective_start, hadulmir_effective_end(&record.entry.event),
-               record.earliest_start, record.entry.held, record.entry.cancelled ? ", cancelled" : "");
+               record.earliest_start, record.entry.held, record.entry.cancelled ? ", cancelled" : "", record.entry.out ? ", out" : "");
     }
 }
 
 int main(void)
 {
-    if (hadulmir_is_refusal(hadulmir_fresh(next.image, sizeof next.image))
-        || hadulmir_is_refusal(hadulmir_add_program(next.image, sizeof next.image, 0, 1, 0x1)))
+    if (refused("start", hadulmir_fresh(next.image, sizeof next.image))
+        || refused("program", hadulmir_add_program(next.image, sizeof next.image, 0, 1, 0x1)))
         return 1;
-    store();
+    stored = now = next;
     set_clock(4000);
     deliver("1", 100, 5000, 600, 0);
     deliver("2", 200, 5300, 60, 0);
     deliver("3", 300, 7000, 600, -300);
     ask(0);
-    set_clock(4999);
     set_clock(5000);
     ask(0);
 
@@ -187,13 +179,21 @@ int main(void)
     deliver("1", 100, 5000, 600, 0);
     deliver("3", 300, 7000, 600, -300);
     deliver("4", 50, 3600, 600, 0);
-
     set_clock(5300);
     ask(0);
     list();
     set_clock(4000);
     set_clock(6000);
     ask(0);
+
+    /* While event 3, of id 2, holds the control, the user opts out and later in again: the default in between, code 9 at the end. */
+    set_clock(7000);
+    press(2, 1);
+    ask(0);
     list();
+    set_clock(7200);
+    press(2, 0);
+    ask(0);
+    set_clock(8000);
     return 0;
 }

@@ -2,11 +2,11 @@
  * @file hadulmir.h
  * Hadulmir: the event schedule of an IEEE 2030.5 client.
  *
- * A host hands over programs, events, cancellations and clock readings as it received them. The part says which event holds which
- * control at each second, settles overlaps by primacy, falls back to a program's default and gives the response codes to be posted.
- * XML, transport, metering and the values of controls stay with the host.
+ * A host hands over programs, events, cancellations and clock readings as it received them, and what its user chooses: to opt out of an
+ * event, or in again. The part says which event holds which control at each second, settles overlaps by primacy, falls back to a program's
+ * default and gives the response codes to be posted. XML, transport, metering and the values of controls stay with the host.
  *
- * The whole state is an image: 2,265 plain bytes that the host owns. The part allocates nothing, keeps nothing between calls, calls
+ * The whole state is an image: 2,313 plain bytes that the host owns. The part allocates nothing, keeps nothing between calls, calls
  * nothing of the host and returns from every call. An image has no pointer in it: it may be copied, stored, sent to another device and
  * taken up there.
  *
@@ -66,15 +66,15 @@ extern "C" {
 typedef char hadulmir_fits_the_target[CHAR_BIT == 8 && sizeof(int) == 4 && (sizeof(void *) == 4 || sizeof(void *) == 8) ? 1 : -1];
 
 /** This version as a number: 10,000 for the first part of its name, 100 for the second, 1 for the third. */
-#define HADULMIR_VERSION 20000
+#define HADULMIR_VERSION 30000
 /** This version as text. */
-#define HADULMIR_VERSION_TEXT "2.0.0"
+#define HADULMIR_VERSION_TEXT "3.0.0"
 
 /** The layout of the image. Versions with the same number here take up each other's images: a host stores it with the image. */
-#define HADULMIR_IMAGE_LAYOUT 1
+#define HADULMIR_IMAGE_LAYOUT 2
 
 /** Bytes of an image. */
-#define HADULMIR_IMAGE_SIZE 2265
+#define HADULMIR_IMAGE_SIZE 2313
 
 /* Where things stand in an image; see THE IMAGE below. */
 #define HADULMIR_CLOCK_AT 0    /**< the clock */
@@ -95,7 +95,7 @@ typedef char hadulmir_fits_the_target[CHAR_BIT == 8 && sizeof(int) == 4 && (size
 #define HADULMIR_ROWS_SIZE (HADULMIR_ROWS_AT_MOST * HADULMIR_ROW_SIZE)
 
 /** Bytes of an event in an image. */
-#define HADULMIR_ENTRY_SIZE 46
+#define HADULMIR_ENTRY_SIZE 47
 
 /** Bytes of a listed record: the event as it stands in the image, then its earliest start. */
 #define HADULMIR_RECORD_SIZE (HADULMIR_ENTRY_SIZE + 8)
@@ -126,7 +126,7 @@ typedef char hadulmir_fits_the_target[CHAR_BIT == 8 && sizeof(int) == 4 && (size
  * that of a line of text which is no frame; no function of this header reads lines, so none returns it.
  */
 enum hadulmir_refusal {
-    /** The image is not 2,265 bytes long, or breaks a rule of images (see THE IMAGE below). */
+    /** The image is not 2,313 bytes long, or breaks a rule of images (see THE IMAGE below). */
     HADULMIR_BAD_IMAGE = -2,
     /** The program number is above 7. */
     HADULMIR_PROGRAM_TOO_LARGE = -3,
@@ -150,7 +150,7 @@ enum hadulmir_refusal {
     HADULMIR_EVENT_EXPIRED = -9,
     /** The id is not held and 48 events are. */
     HADULMIR_FULL = -10,
-    /** The id to be cancelled is not held. */
+    /** No event is held under the id that is to be cancelled, or that the user chose for. */
     HADULMIR_NOT_HELD = -11,
     /** The reading is before the clock, or above 9,000,000,000. */
     HADULMIR_BAD_CLOCK = -12,
@@ -160,15 +160,24 @@ enum hadulmir_refusal {
     HADULMIR_CONTROL_TOO_LARGE = -14
 };
 
-/** Response codes of IEEE 2030.5 that a host posts. 2, 3 and 7 come in rows, 1 and 6 are answers, 253 and 254 go with refusals. */
+/**
+ * Response codes of IEEE 2030.5 that a host posts, with the names of its Table 31 and when this part gives them. 2 and 7 come in rows, and so
+ * do the four codes of an end, 3, 8, 9 and 10; 'those seconds' are the ones in which the event held something. 1, 4, 5 and 6 are answers. 253
+ * and 254 go with refusals.
+ */
 enum hadulmir_response {
-    HADULMIR_RECEIVED = 1,
-    HADULMIR_STARTED = 2,
-    HADULMIR_COMPLETED = 3,
-    HADULMIR_CANCELLED = 6,
-    HADULMIR_SUPERSEDED = 7,
-    HADULMIR_REJECTED_INVALID = 253,
-    HADULMIR_REJECTED_EXPIRED = 254
+    HADULMIR_RECEIVED = 1,           /**< Received: the event is new */
+    HADULMIR_STARTED = 2,            /**< Started: it starts and holds a control */
+    HADULMIR_COMPLETED = 3,          /**< Completed: it ends, and the user was in for all of those seconds */
+    HADULMIR_OPTED_OUT = 4,          /**< Opt-Out: the user opts out */
+    HADULMIR_OPTED_IN = 5,           /**< Opt-In: the user opts in again */
+    HADULMIR_CANCELLED = 6,          /**< Cancelled: it is cancelled */
+    HADULMIR_SUPERSEDED = 7,         /**< Superseded: it starts and holds no control, or a better event takes its last one */
+    HADULMIR_PARTLY_OPTED_OUT = 8,   /**< Partial Complete, Opt-Out: it ends, the user was in for some of those seconds, is out at the end */
+    HADULMIR_PARTLY_OPTED_IN = 9,    /**< Partial Complete, Opt-In: it ends, the user was in for some of those seconds, is in at the end */
+    HADULMIR_NOT_PARTICIPATED = 10,  /**< Complete, No Participation: it ends, and the user was in for none of those seconds */
+    HADULMIR_REJECTED_INVALID = 253, /**< Invalid: see refusal -7 */
+    HADULMIR_REJECTED_EXPIRED = 254  /**< Expired: see refusal -9 */
 };
 
 /** What hadulmir_ask answers. Program p is answered as HADULMIR_DEFAULT + p. */
@@ -184,7 +193,7 @@ enum hadulmir_asked {
  *        0   clock                                8 bytes
  *        8   count of held events                 1
  *        9   program 0 to program 7               6 each:  added (0 or 1) 1, primacy 1, defaults 4
- *       57   event entries, 48 of them           46 each:  as below, the held ones first
+ *       57   event entries, 48 of them           47 each:  as below, the held ones first
  *
  * An event entry:
  *
@@ -201,11 +210,13 @@ enum hadulmir_asked {
  *       33   effective start                      8
  *       41   held mask                            4
  *       45   cancelled (0 or 1)                   1
+ *       46   the user's choice                    1, bit 0: out now; bit 1: was in, and bit 2: was out, for a second in which
+ *                                                 the event held something; bits 3 to 7: 0
  *
  * A record, which a listing gives and no image has:
  *
- *        0   event entry, as in the image        46
- *       46   earliest start                       8
+ *        0   event entry, as in the image        47
+ *       47   earliest start                       8
  *
  * A row:
  *
@@ -226,13 +237,32 @@ enum hadulmir_asked {
  *   - Each held event is of an added program and has fields that refusal 7 does not apply to.
  *   - Its effective start is not before its drawn start and is before its effective end. Its effective end is after the clock.
  *   - Its held mask lies within its controls, and is 0 if the clock is before the effective start or the event is cancelled.
+ *   - Bits 3 to 7 of its choice are 0. Bits 1 and 2 are 0 if the clock is before the effective start, and are not both 0 if the held mask
+ *     is not 0.
  *   - No two held masks share a bit.
  */
 
+/*
+ * WHEN A CHOICE COUNTS
+ *
+ * The user is in for a new event. A choice that is made at clock k counts for the seconds from k + 1 on, until another one does; a question
+ * after the call goes by it at once. While the user is out, the event keeps its rank and goes on holding its controls, so that no lesser event
+ * gets them, but a question about them is answered as though nobody held them.
+ *
+ * For each second in which the event holds something, its start too, the part notes whether the user was in or out: bits 1 and 2 of the
+ * choice in its entry. At the effective end the event, if it is not cancelled and held something in the second before, gives
+ *     3    if the user was in for all of these seconds;
+ *     10   if for none of them;
+ *     8    if for some of them, and the choice that counts for the end is out;
+ *     9    if for some of them, and the choice that counts for the end is in.
+ * A choice that is made at the last clock before the end counts for the end and for none of these seconds: it can turn 8 into 9 or 9 into 8,
+ * and leaves 3 and 10.
+ */
+
 /**
- * Makes the fresh image: clock 0, no program, no event, which is 2,265 zero bytes. What the buffer held before does not count.
- * Answers 0 and writes all 2,265 bytes.
- * Refuses with -2 if image_len is not 2,265.
+ * Makes the fresh image: clock 0, no program, no event, which is 2,313 zero bytes. What the buffer held before does not count.
+ * Answers 0 and writes all 2,313 bytes.
+ * Refuses with -2 if image_len is not 2,313.
  */
 int32_t hadulmir_fresh(uint8_t *image, uint64_t image_len);
 
@@ -249,7 +279,8 @@ int32_t hadulmir_add_program(uint8_t *image, uint64_t image_len, uint8_t number,
  * The last four numbers are signed, in two's complement: give them through hadulmir_signed. The host draws once for an event, at random,
  * between 0 and the randomisation, both included, and gives the same draws whenever it delivers that event again.
  * Answers 1 if the event is new and writes the image; the host posts code 1. Answers 0 if it is held with every field equal, cancelled or not,
- * and leaves the image as it was. An event is held until the clock reaches its effective end. After that its id is free.
+ * and leaves the image as it was, with the user's choice. An event is held until the clock reaches its effective end. After that its id is
+ * free.
  * Refuses with -2, -3, -6, -7, -8, -9, -10. The host posts 253 for -7 and 254 for -9; hadulmir_response_for says so.
  */
 int32_t hadulmir_deliver(uint8_t *image, uint64_t image_len, uint64_t id, uint8_t program, uint32_t controls, uint32_t created,
@@ -258,16 +289,34 @@ int32_t hadulmir_deliver(uint8_t *image, uint64_t image_len, uint64_t id, uint8_
 
 /**
  * Cancels a held event. It holds nothing any more, as a question or a listing after the call shows; what it held at the present second still
- * counts for that second. It gives no more rows, and stays listed until its effective end.
+ * counts for that second. It gives no more rows, and stays listed until its effective end. The user's choice stays as it is.
  * Answers 6 and writes the image; the host posts code 6. Answers 0 if it was cancelled before, and leaves the image as it was.
  * Refuses with -2, -11.
  */
 int32_t hadulmir_cancel(uint8_t *image, uint64_t image_len, uint64_t id);
 
 /**
+ * The user opts out of a held event, whether or not it has started, holds anything or is cancelled. WHEN A CHOICE COUNTS above says what comes
+ * of it.
+ * Answers 4 and writes the image, of which bit 0 of the event's choice alone changes; the host posts code 4. Answers 0 if the user is out
+ * already, and leaves the image as it was.
+ * Refuses with -2, -11.
+ */
+int32_t hadulmir_opt_out(uint8_t *image, uint64_t image_len, uint64_t id);
+
+/**
+ * The user opts in to a held event again, whether or not it has started, holds anything or is cancelled.
+ * Answers 5 and writes the image, of which bit 0 of the event's choice alone changes; the host posts code 5. Answers 0 if the user is in
+ * already, as with every new event, and leaves the image as it was.
+ * Refuses with -2, -11.
+ */
+int32_t hadulmir_opt_in(uint8_t *image, uint64_t image_len, uint64_t id);
+
+/**
  * Sets the clock to `reading` and writes the response rows of all moments after the old reading up to the new one, one behind the other from
- * the front of `rows`. Rows go by time, at one time by code in the order 3, 7, 2, then by id. A jump over many moments gives the same rows as
- * a call for every second. The same reading again is allowed and gives none.
+ * the front of `rows`. Rows go by time, at one time first the ends (3, 8, 9, 10), then 7, then 2, and each of these three by id: of two ends
+ * the smaller id comes first, whichever their codes. A jump over many moments gives the same rows as a call for every second. The same reading
+ * again is allowed and gives none.
  * Answers the count of the rows, 0 to 96, and writes the image and 17 bytes of `rows` for each row; the bytes behind stay as they were.
  * Refuses with -2, -12, and with -13 if rows_len is below 17 times the count. HADULMIR_ROWS_SIZE bytes always suffice. After -13 the clock
  * stands where it stood: a host calls again with a longer buffer, or with an earlier reading first.
@@ -275,19 +324,20 @@ int32_t hadulmir_cancel(uint8_t *image, uint64_t image_len, uint64_t id);
 int32_t hadulmir_set_clock(uint8_t *image, uint64_t image_len, uint64_t reading, uint8_t *rows, uint64_t rows_len);
 
 /**
- * Asks what holds for a control now. The image stays as it was.
- * Answers HADULMIR_EVENT (1) if an event holds it, with its id in the first 8 bytes of `id` (hadulmir_id_at reads it); the bytes behind stay
- * as they were. Else answers HADULMIR_DEFAULT + p (2 to 9) for the program p of best primacy whose defaults have the control, the smaller
- * number if two are equal; else HADULMIR_NOBODY (0). With these two answers `id` stays as it was, and may be of any length.
- * Refuses with -2, -14, and with -13 if an event holds the control and id_len is below 8.
+ * Asks what governs a control now. The image stays as it was.
+ * Answers HADULMIR_EVENT (1) if an event holds it that the user is not out of, with its id in the first 8 bytes of `id` (hadulmir_id_at reads
+ * it); the bytes behind stay as they were. Else, also if the user is out of the event that holds it, answers HADULMIR_DEFAULT + p (2 to 9) for
+ * the program p of best primacy whose defaults have the control, the smaller number if two are equal; else HADULMIR_NOBODY (0). With these two
+ * answers `id` stays as it was, and may be of any length.
+ * Refuses with -2, -14, and with -13 if the answer is HADULMIR_EVENT and id_len is below 8.
  */
 int32_t hadulmir_ask(const uint8_t *image, uint64_t image_len, uint8_t control, uint8_t *id, uint64_t id_len);
 
 /**
- * Lists the held events by ascending id, one record of 54 bytes behind the other from the front of `records`: the entry of the image, then the
- * earliest start. The image stays as it was.
- * Answers their count, 0 to 48, and writes 54 bytes for each; the bytes behind stay as they were. records_len need be no multiple of 54.
- * Refuses with -2, and with -13 if records_len is below 54 times the count. HADULMIR_RECORDS_SIZE bytes always suffice.
+ * Lists the held events by ascending id, one record of 55 bytes behind the other from the front of `records`: the entry of the image, then the
+ * earliest start. An event that the user is out of is listed with the controls that it holds. The image stays as it was.
+ * Answers their count, 0 to 48, and writes 55 bytes for each; the bytes behind stay as they were. records_len need be no multiple of 55.
+ * Refuses with -2, and with -13 if records_len is below 55 times the count. HADULMIR_RECORDS_SIZE bytes always suffice.
  */
 int32_t hadulmir_list(const uint8_t *image, uint64_t image_len, uint8_t *records, uint64_t records_len);
 
@@ -335,8 +385,9 @@ static inline const char *hadulmir_refusal_text(int32_t refusal)
 }
 
 /**
- * The response code that a host posts after a refusal: 253 for -7, 254 for -9, else 0 for none. It takes refusals alone: what hadulmir_deliver
- * and hadulmir_cancel answer is the code itself, or 0 for none, and what the other functions answer is no code.
+ * The response code that a host posts after a refusal: 253 for -7, 254 for -9, else 0 for none. It takes refusals alone: an answer of
+ * hadulmir_deliver, hadulmir_cancel, hadulmir_opt_out or hadulmir_opt_in is the code itself, or 0 for none; an answer of another function is
+ * no code.
  */
 static inline uint8_t hadulmir_response_for(int32_t refusal)
 {
@@ -412,7 +463,7 @@ static inline uint64_t hadulmir_id_at(const uint8_t *id)
 struct hadulmir_row {
     uint64_t time; /**< when */
     uint64_t id;   /**< which event */
-    uint8_t code;  /**< gives which response code: 2, 3 or 7 */
+    uint8_t code;  /**< gives which response code: 2, 3, 7, 8, 9 or 10 */
 };
 
 /** Row i of a buffer that hadulmir_set_clock wrote; i is below the count that it answered. */
@@ -433,6 +484,9 @@ struct hadulmir_entry {
     uint64_t effective_start;    /**< see THE IMAGE above */
     uint32_t held;               /**< the mask of the controls that it holds now */
     uint8_t cancelled;           /**< 0 or 1 */
+    uint8_t out;                 /**< 1 while the user is out of it, else 0 */
+    uint8_t was_in;              /**< 1 if the user was in for a second in which it held something, else 0 */
+    uint8_t was_out;             /**< 1 if the user was out for such a second, else 0 */
 };
 
 /** The entry of HADULMIR_ENTRY_SIZE bytes. */
@@ -453,6 +507,9 @@ static inline struct hadulmir_entry hadulmir_entry_at(const uint8_t *bytes)
     entry.effective_start = hadulmir_number_at(bytes + 33, 8);
     entry.held = (uint32_t)hadulmir_number_at(bytes + 41, 4);
     entry.cancelled = bytes[45];
+    entry.out = (uint8_t)(bytes[46] & 1u);
+    entry.was_in = (uint8_t)(bytes[46] >> 1 & 1u);
+    entry.was_out = (uint8_t)(bytes[46] >> 2 & 1u);
     return entry;
 }
 

@@ -1,8 +1,8 @@
 /*
  * Tests of the C face. Every call goes through `call`, which lends buffers of the exact length between guard bytes and looks at all that a
  * call must not touch: the guard bytes always, the bytes behind what was written, the image of a question or a listing, and everything
- * after a refusal. It compares every byte of a listing with the image. With -DGUARD=0 a buffer is a heap block of its exact length, so that
- * valgrind sees a byte read or written outside it.
+ * after a refusal. It compares every byte of a listing with the image, and every byte of the image with what a choice makes of it. With
+ * -DGUARD=0 a buffer is a heap block of its exact length, so that valgrind sees a byte read or written outside it.
  */
 #include <inttypes.h>
 #include <stdio.h>
@@ -16,8 +16,16 @@
 #endif
 
 #define IMAGE HADULMIR_IMAGE_SIZE
+#define ROWS_ROOM HADULMIR_ROWS_SIZE
+#define RECORDS_ROOM HADULMIR_RECORDS_SIZE
 #define LENT_AT_MOST 4096
 #define TEXT_AT_MOST 8192
+
+/* Places in an image, and in an entry of it; the bits of a choice. */
+#define PROGRAM(n) (HADULMIR_PROGRAMS_AT + HADULMIR_PROGRAM_SIZE * (size_t)(n))
+#define ENTRY(i) (HADULMIR_EVENTS_AT + HADULMIR_ENTRY_SIZE * (size_t)(i))
+enum { EFFECTIVE_START_AT = 33, HELD_AT = 41, CANCELLED_AT = 45, CHOICE_AT = 46 };
+enum { OUT = 1, WAS_IN = 2, WAS_OUT = 4 };
 
 /* COUNTING */
 
@@ -98,12 +106,12 @@ static int pattern_from(const struct lent *b, size_t from)
 
 /* CALLS */
 
-enum kind { ADD, DELIVER, CANCEL, CLOCK, ASK, LIST };
+enum kind { ADD, DELIVER, CANCEL, OPT_OUT, OPT_IN, CLOCK, ASK, LIST };
 
 /* A call with all that is given to it but the image. `room` is the length of the lent buffer. */
 struct op {
     enum kind kind;
-    uint64_t id; /* of DELIVER and CANCEL; the reading of CLOCK */
+    uint64_t id; /* of DELIVER, CANCEL, OPT_OUT and OPT_IN; the reading of CLOCK */
     uint8_t number; /* of a program or a control */
     uint8_t primacy;
     uint32_t controls; /* also the defaults of ADD */
@@ -153,12 +161,28 @@ static struct op drawn(struct op op, int32_t randomize_start, int32_t start_draw
     return op;
 }
 
-static struct op cancel(uint64_t id)
+/* A call that names an event. */
+static struct op naming(enum kind kind, uint64_t id)
 {
-    struct op op = blank_op(CANCEL);
+    struct op op = blank_op(kind);
 
     op.id = id;
     return op;
+}
+
+static struct op cancel(uint64_t id)
+{
+    return naming(CANCEL, id);
+}
+
+static struct op opt_out(uint64_t id)
+{
+    return naming(OPT_OUT, id);
+}
+
+static struct op opt_in(uint64_t id)
+{
+    return naming(OPT_IN, id);
 }
 
 /* A call that is lent a buffer. */
@@ -202,6 +226,10 @@ static int32_t act(uint8_t *image, size_t len, const struct op *op, uint8_t *len
                                 hadulmir_signed(op->start_draw), hadulmir_signed(op->duration_draw));
     case CANCEL:
         return hadulmir_cancel(image, len, op->id);
+    case OPT_OUT:
+        return hadulmir_opt_out(image, len, op->id);
+    case OPT_IN:
+        return hadulmir_opt_in(image, len, op->id);
     case CLOCK:
         return hadulmir_set_clock(image, len, op->id, lent, op->room);
     case ASK:
@@ -248,23 +276,55 @@ static int64_t earliest_start(const uint8_t *entry)
     return moved < start ? moved : start;
 }
 
-/* Whether these are the records of the image: for each held event the 46 bytes of its entry, then 8 bytes of the earliest start. */
+/* Whether these are the records of the image: for each held event the bytes of its entry, then 8 bytes of the earliest start. */
 static int records_of(const uint8_t *records, int32_t count, const uint8_t *image)
 {
-    uint8_t wanted[54];
+    uint8_t wanted[HADULMIR_RECORD_SIZE];
     int32_t i;
 
-    if (count != image[8])
+    if (count != image[HADULMIR_COUNT_AT])
         return 0;
     for (i = 0; i < count; i++) {
-        const uint8_t *entry = image + 57 + 46 * i;
+        const uint8_t *entry = image + ENTRY(i);
 
-        memcpy(wanted, entry, 46);
-        put(wanted + 46, 8, (uint64_t)earliest_start(entry));
-        if (memcmp(records + 54 * i, wanted, 54) != 0)
+        memcpy(wanted, entry, HADULMIR_ENTRY_SIZE);
+        put(wanted + HADULMIR_ENTRY_SIZE, 8, (uint64_t)earliest_start(entry));
+        if (memcmp(records + HADULMIR_RECORD_SIZE * i, wanted, HADULMIR_RECORD_SIZE) != 0)
             return 0;
     }
     return 1;
+}
+
+/* Whether a choice that was answered with 4 or 5 has turned bit 0 of the choice of its event, and no other bit of the image. */
+static int turned(const uint8_t *before, const uint8_t *after, const struct op *op, int32_t returned)
+{
+    uint8_t wanted[IMAGE];
+    size_t i;
+
+    memcpy(wanted, before, IMAGE);
+    for (i = 0; i < before[HADULMIR_COUNT_AT]; i++)
+        if (hadulmir_number_at(before + ENTRY(i), 8) == op->id)
+            wanted[ENTRY(i) + CHOICE_AT] ^= OUT;
+    return returned == (op->kind == OPT_OUT ? HADULMIR_OPTED_OUT : HADULMIR_OPTED_IN) && memcmp(wanted, after, IMAGE) == 0
+           && memcmp(before, after, IMAGE) != 0;
+}
+
+/* Whether an accepted call has left the image as it may. */
+static int image_fits(const uint8_t *before, const uint8_t *after, size_t len, const struct op *op, int32_t returned)
+{
+    switch (op->kind) {
+    case ASK:
+    case LIST:
+        return memcmp(before, after, len) == 0;
+    case DELIVER:
+    case CANCEL:
+        return returned != 0 || memcmp(before, after, len) == 0;
+    case OPT_OUT:
+    case OPT_IN:
+        return returned == 0 ? memcmp(before, after, len) == 0 : len == IMAGE && turned(before, after, op, returned);
+    default:
+        return 1;
+    }
 }
 
 /* The lent bytes as the last call left them. */
@@ -283,9 +343,8 @@ static int32_t call_at_length(uint8_t *image, size_t len, struct op op)
     if (returned < 0)
         untouched = untouched && memcmp(own.at, image, len) == 0 && pattern_from(&lent, 0);
     else
-        untouched = untouched && written(op.kind, returned) <= op.room && pattern_from(&lent, written(op.kind, returned));
-    if (op.kind == ASK || op.kind == LIST || ((op.kind == DELIVER || op.kind == CANCEL) && returned == 0))
-        untouched = untouched && memcmp(own.at, image, len) == 0;
+        untouched = untouched && image_fits(image, own.at, len, &op, returned) && written(op.kind, returned) <= op.room
+                    && pattern_from(&lent, written(op.kind, returned));
     CHECK(untouched);
     if (op.kind == LIST && returned >= 0)
         CHECK(written(LIST, returned) <= op.room && records_of(lent.at, returned, own.at));
@@ -322,7 +381,7 @@ static void blank_image(uint8_t *image, uint64_t clock)
 
 static void put_program(uint8_t *image, uint8_t number, uint8_t primacy, uint32_t defaults)
 {
-    uint8_t *at = image + 9 + 6 * number;
+    uint8_t *at = image + PROGRAM(number);
 
     at[0] = 1;
     at[1] = primacy;
@@ -331,13 +390,13 @@ static void put_program(uint8_t *image, uint8_t number, uint8_t primacy, uint32_
 
 static uint8_t *entry_of(uint8_t *image, size_t i)
 {
-    return image + HADULMIR_EVENTS_AT + i * HADULMIR_ENTRY_SIZE;
+    return image + ENTRY(i);
 }
 
 /* Puts an entry behind the last one. */
-static void put_event(uint8_t *image, struct op e, uint64_t effective_start, uint32_t held, uint8_t cancelled)
+static void put_event(uint8_t *image, struct op e, uint64_t effective_start, uint32_t held, uint8_t cancelled, uint8_t choice)
 {
-    uint8_t *at = entry_of(image, image[8]);
+    uint8_t *at = entry_of(image, image[HADULMIR_COUNT_AT]);
 
     put(at, 8, e.id);
     at[8] = e.number;
@@ -349,10 +408,11 @@ static void put_event(uint8_t *image, struct op e, uint64_t effective_start, uin
     put(at + 27, 2, hadulmir_signed(e.randomize_duration));
     put(at + 29, 2, hadulmir_signed(e.start_draw));
     put(at + 31, 2, hadulmir_signed(e.duration_draw));
-    put(at + 33, 8, effective_start);
-    put(at + 41, 4, held);
-    at[45] = cancelled;
-    image[8]++;
+    put(at + EFFECTIVE_START_AT, 8, effective_start);
+    put(at + HELD_AT, 4, held);
+    at[CANCELLED_AT] = cancelled;
+    at[CHOICE_AT] = choice;
+    image[HADULMIR_COUNT_AT]++;
 }
 
 static int same(const uint8_t *a, const uint8_t *b)
@@ -426,12 +486,13 @@ static void rows_at(uint8_t *image, uint64_t reading, const char *wanted, int li
 
 #define ROWS(image, reading, wanted) rows_at((image), (reading), (wanted), __LINE__)
 
-/* A record as text: "id start-end held", behind it " cancelled", and " earliest TIME" where that is not the effective start. */
+/* A record as text: "id start-end held", behind it " cancelled", " out", and " earliest TIME" where that is not the effective start. */
 static void record_text(char *text, size_t size, size_t i)
 {
     struct hadulmir_record r = hadulmir_record_at(lent_bytes, i);
-    int used = snprintf(text, size, "%" PRIu64 " %" PRIu64 "-%" PRIu64 " %" PRIX32 "%s", r.entry.event.id, r.entry.effective_start,
-                        hadulmir_effective_end(&r.entry.event), r.entry.held, r.entry.cancelled ? " cancelled" : "");
+    int used = snprintf(text, size, "%" PRIu64 " %" PRIu64 "-%" PRIu64 " %" PRIX32 "%s%s", r.entry.event.id, r.entry.effective_start,
+                        hadulmir_effective_end(&r.entry.event), r.entry.held, r.entry.cancelled ? " cancelled" : "",
+                        r.entry.out ? " out" : "");
 
     if (r.earliest_start != r.entry.effective_start)
         snprintf(text + used, size - (size_t)used, " earliest %" PRIu64, r.earliest_start);
@@ -441,7 +502,7 @@ static void record_text(char *text, size_t size, size_t i)
 static void listed_at(uint8_t *image, const char *wanted, int line)
 {
     static char text[TEXT_AT_MOST];
-    static const size_t more[] = {1, 53, 54, 100, 0};
+    static const size_t more[] = {1, HADULMIR_RECORD_SIZE - 1, HADULMIR_RECORD_SIZE, 100, 0};
     size_t need = parts_of(wanted) * HADULMIR_RECORD_SIZE;
     size_t i, j;
     char part[128];
@@ -502,7 +563,7 @@ static void begin(uint8_t *image, uint64_t clock)
 
 static void test_fresh(void)
 {
-    static const size_t wrong[] = {0, 1, 46, IMAGE - 1, IMAGE + 1, 2 * IMAGE};
+    static const size_t wrong[] = {0, 1, HADULMIR_ENTRY_SIZE, IMAGE - 1, IMAGE + 1, 2 * IMAGE};
     uint8_t zero[IMAGE];
     struct lent b;
     size_t i;
@@ -587,7 +648,7 @@ static void test_deliver_answers(void)
     blank_image(wanted, 0);
     put_program(wanted, 7, 191, 0);
     put_program(wanted, 0, 0, 0);
-    put_event(wanted, first, 0x55667786, 0, 0);
+    put_event(wanted, first, 0x55667786, 0, 0, 0);
     CHECK(same(image, wanted));
 
     /* Entries go by id, whatever the order of arrival. */
@@ -596,9 +657,9 @@ static void test_deliver_answers(void)
     blank_image(wanted, 0);
     put_program(wanted, 7, 191, 0);
     put_program(wanted, 0, 0, 0);
-    put_event(wanted, smaller, 3600, 0, 0);
-    put_event(wanted, first, 0x55667786, 0, 0);
-    put_event(wanted, larger, UINT32_MAX, 0, 0);
+    put_event(wanted, smaller, 3600, 0, 0, 0);
+    put_event(wanted, first, 0x55667786, 0, 0, 0);
+    put_event(wanted, larger, UINT32_MAX, 0, 0, 0);
     CHECK(same(image, wanted));
 
     /* Held already: 0, and no change, also if cancelled or if the end by the duration alone has passed. */
@@ -741,8 +802,8 @@ static void test_cancel(void)
     /* While it holds: from then on it holds nothing. The one that it had beaten does not come back, and can be cancelled too. */
     memcpy(wanted, image, IMAGE);
     EXPECT(image, cancel(1), HADULMIR_CANCELLED);
-    put(entry_of(wanted, 0) + 41, 4, 0);
-    entry_of(wanted, 0)[45] = 1;
+    put(entry_of(wanted, 0) + HELD_AT, 4, 0);
+    entry_of(wanted, 0)[CANCELLED_AT] = 1;
     CHECK(same(image, wanted));
     NONE(image, 0);
     EXPECT(image, cancel(4), HADULMIR_CANCELLED);
@@ -772,14 +833,14 @@ static void test_set_clock(void)
     begin(image, 4000);
     EXPECT(image, set_clock(4000, 0), 0);
     EXPECT(image, set_clock(3999, 0), HADULMIR_BAD_CLOCK);
-    EXPECT(image, set_clock(0, 1632), HADULMIR_BAD_CLOCK);
-    EXPECT(image, set_clock(HADULMIR_CLOCK_AT_MOST + 1, 1632), HADULMIR_BAD_CLOCK);
+    EXPECT(image, set_clock(0, ROWS_ROOM), HADULMIR_BAD_CLOCK);
+    EXPECT(image, set_clock(HADULMIR_CLOCK_AT_MOST + 1, ROWS_ROOM), HADULMIR_BAD_CLOCK);
     EXPECT(image, set_clock(UINT64_MAX, 0), HADULMIR_BAD_CLOCK);
     EXPECT(image, event(1, 0, 1, 100, 5000, 600), HADULMIR_RECEIVED);
     EXPECT(image, set_clock(3999, 0), HADULMIR_BAD_CLOCK); /* 12 before 13 */
     EXPECT(image, set_clock(HADULMIR_CLOCK_AT_MOST + 1, 0), HADULMIR_BAD_CLOCK);
-    TRY(image, set_clock(HADULMIR_CLOCK_AT_MOST, 34), 2);
-    TRY(image, set_clock(HADULMIR_CLOCK_AT_MOST, 33), HADULMIR_TOO_SHORT);
+    TRY(image, set_clock(HADULMIR_CLOCK_AT_MOST, 2 * HADULMIR_ROW_SIZE), 2);
+    TRY(image, set_clock(HADULMIR_CLOCK_AT_MOST, 2 * HADULMIR_ROW_SIZE - 1), HADULMIR_TOO_SHORT);
     TRY(image, set_clock(HADULMIR_CLOCK_AT_MOST, 0), HADULMIR_TOO_SHORT);
     ROWS(image, 4999, "");
 
@@ -787,7 +848,7 @@ static void test_set_clock(void)
     ROWS(image, 5000, "5000 1 2");
     blank_image(wanted, 5000);
     put_program(wanted, 0, 1, 0);
-    put_event(wanted, event(1, 0, 1, 100, 5000, 600), 5000, 1, 0);
+    put_event(wanted, event(1, 0, 1, 100, 5000, 600), 5000, 1, 0, WAS_IN);
     CHECK(same(image, wanted));
     ROWS(image, 5000, "");
     CHECK(same(image, wanted));
@@ -918,16 +979,16 @@ static void test_full(void)
                  (unsigned)(5005 + 10 * (i * 29 % 48)));
         append(records, part);
     }
-    CHECK(parts_of(rows) == HADULMIR_ROWS_AT_MOST && HADULMIR_ROWS_SIZE == 1632);
+    CHECK(parts_of(rows) == HADULMIR_ROWS_AT_MOST);
     LISTED(image, records);
     EXPECT(image, list(HADULMIR_RECORDS_SIZE), 48);
     EXPECT(image, list(HADULMIR_RECORDS_SIZE - 1), HADULMIR_TOO_SHORT);
     EXPECT(image, list(0), HADULMIR_TOO_SHORT);
 
-    /* 96 rows in one call: 1,632 bytes do, 1,631 do not. */
+    /* As many rows in one call as there can be: the room for them does, one byte less does not. */
     memcpy(copy, image, IMAGE);
-    EXPECT(copy, set_clock(6000, 1631), HADULMIR_TOO_SHORT);
-    EXPECT(copy, set_clock(6000, 1632), HADULMIR_ROWS_AT_MOST);
+    EXPECT(copy, set_clock(6000, ROWS_ROOM - 1), HADULMIR_TOO_SHORT);
+    EXPECT(copy, set_clock(6000, ROWS_ROOM), HADULMIR_ROWS_AT_MOST);
     ROWS(image, 6000, rows);
     CHECK(same(image, copy));
     LISTED(image, "");
@@ -935,8 +996,8 @@ static void test_full(void)
     /* Every count of rows that a clock call can answer, in the exact room. */
     fill(image);
     for (i = 1; i <= HADULMIR_ROWS_AT_MOST; i++) {
-        TRY(image, set_clock(4995 + 5 * i, 17 * i), (int32_t)i);
-        TRY(image, set_clock(4995 + 5 * i, 17 * i - 1), HADULMIR_TOO_SHORT);
+        TRY(image, set_clock(4995 + 5 * i, HADULMIR_ROW_SIZE * i), (int32_t)i);
+        TRY(image, set_clock(4995 + 5 * i, HADULMIR_ROW_SIZE * i - 1), HADULMIR_TOO_SHORT);
     }
 
     /* One place comes free at an end, not before. A cancelled event keeps its place. */
@@ -967,12 +1028,12 @@ static void test_full(void)
     }
     memcpy(copy, image, IMAGE);
     ROWS(copy, 6000, rows);
-    EXPECT(image, set_clock(5000, 48 * 17), 48);
+    EXPECT(image, set_clock(5000, 48 * HADULMIR_ROW_SIZE), 48);
     for (i = 0; i < 32; i++)
         HOLDER(image, (uint8_t)i, i < 16 ? i + 32 : i);
 }
 
-/* Every count of records, with randomisations of both signs: 54 bytes for each do; one byte less does not, nor does room for the entries. */
+/* Every count of records, with randomisations of both signs: room for each does; one byte less does not, nor does room for the entries. */
 static void test_rooms(void)
 {
     uint8_t image[IMAGE];
@@ -984,11 +1045,11 @@ static void test_rooms(void)
         int32_t bound = i % 2 == 0 ? 7 * (int32_t)i : -7 * (int32_t)i;
 
         EXPECT(image, drawn(event(UINT64_MAX / i, 0, 1, 0, 5000 + (uint32_t)i, 5), bound, bound / 2, 0, 0), HADULMIR_RECEIVED);
-        EXPECT(image, list(46 * i), HADULMIR_TOO_SHORT);
-        EXPECT(image, list(50 * i), HADULMIR_TOO_SHORT);
-        EXPECT(image, list(54 * i - 1), HADULMIR_TOO_SHORT);
-        EXPECT(image, list(54 * i), (int32_t)i);
-        EXPECT(image, list(54 * i + 1), (int32_t)i);
+        EXPECT(image, list(HADULMIR_ENTRY_SIZE * i), HADULMIR_TOO_SHORT);
+        EXPECT(image, list((HADULMIR_RECORD_SIZE - 1) * i), HADULMIR_TOO_SHORT);
+        EXPECT(image, list(HADULMIR_RECORD_SIZE * i - 1), HADULMIR_TOO_SHORT);
+        EXPECT(image, list(HADULMIR_RECORD_SIZE * i), (int32_t)i);
+        EXPECT(image, list(HADULMIR_RECORD_SIZE * i + 1), (int32_t)i);
     }
 }
 
@@ -1155,6 +1216,314 @@ static void test_example(void)
     LISTED(image, "");
 }
 
+/* USERS WHO OPT OUT */
+
+/* The choice of a held event; 255 if it is not held. */
+static uint8_t choice_of(const uint8_t *image, uint64_t id)
+{
+    size_t i;
+
+    for (i = 0; i < hadulmir_count_of(image); i++)
+        if (hadulmir_entry_of(image, i).event.id == id)
+            return image[ENTRY(i) + CHOICE_AT];
+    return 255;
+}
+
+#define CHOICE(image, id, wanted) check(choice_of((image), (id)) == (wanted), "the choice", __LINE__)
+
+/* For each id up to 9: held and in, it answers 4 and 5 by turns, and 0 for a repeat; not held, it is refused with 11. */
+static void by_turns_at(uint8_t *image, const char *held, int line)
+{
+    uint64_t id;
+
+    for (id = 0; id < 10; id++)
+        if (strchr(held, '0' + (int)id) != NULL) {
+            expect_at(image, opt_in(id), 0, line);
+            expect_at(image, opt_out(id), HADULMIR_OPTED_OUT, line);
+            expect_at(image, opt_out(id), 0, line);
+            expect_at(image, opt_in(id), HADULMIR_OPTED_IN, line);
+            expect_at(image, opt_in(id), 0, line);
+        } else {
+            expect_at(image, opt_out(id), HADULMIR_NOT_HELD, line);
+            expect_at(image, opt_in(id), HADULMIR_NOT_HELD, line);
+        }
+}
+
+#define BY_TURNS(image, held) by_turns_at((image), (held), __LINE__)
+
+/* Whatever an event has come to: not started, running, started without a control, superseded, cancelled, ended. */
+static void test_choice_answers(void)
+{
+    uint8_t image[IMAGE];
+
+    begin(image, 4000);
+    BY_TURNS(image, "");
+    EXPECT(image, event(2, 0, 1, 100, 5000, 600), HADULMIR_RECEIVED);
+    EXPECT(image, event(4, 0, 2, 100, 5000, 600), HADULMIR_RECEIVED);
+    EXPECT(image, event(6, 0, 1, 200, 5300, 100), HADULMIR_RECEIVED);
+    EXPECT(image, event(8, 0, 2, 50, 5100, 400), HADULMIR_RECEIVED);
+    EXPECT(image, opt_out(UINT64_MAX), HADULMIR_NOT_HELD);
+    EXPECT(image, opt_in(UINT64_C(4) << 32), HADULMIR_NOT_HELD);
+    BY_TURNS(image, "2468");
+    ROWS(image, 5000, "5000 2 2; 5000 4 2");
+    BY_TURNS(image, "2468");
+    ROWS(image, 5300, "5100 8 7; 5300 2 7; 5300 6 2");
+    BY_TURNS(image, "2468");
+    EXPECT(image, cancel(4), HADULMIR_CANCELLED);
+    EXPECT(image, cancel(2), HADULMIR_CANCELLED);
+    BY_TURNS(image, "2468");
+    LISTED(image, "2 5000-5600 0 cancelled; 4 5000-5600 0 cancelled; 6 5300-5400 1; 8 5100-5500 0");
+    ROWS(image, 5399, "");
+    BY_TURNS(image, "2468");
+    ROWS(image, 5400, "5400 6 3");
+    BY_TURNS(image, "248");
+    ROWS(image, 5599, "");
+    BY_TURNS(image, "24");
+    ROWS(image, 5600, "");
+    BY_TURNS(image, "");
+}
+
+/* A choice stays with its event: delivered again, refused with another field, cancelled. A new event under the same id is in. */
+static void test_choice_stays(void)
+{
+    uint8_t image[IMAGE];
+    const struct op e = event(7, 0, 1, 100, 5000, 600);
+
+    begin(image, 4000);
+    EXPECT(image, e, HADULMIR_RECEIVED);
+    EXPECT(image, opt_out(7), HADULMIR_OPTED_OUT);
+    EXPECT(image, e, 0);
+    EXPECT(image, event(7, 0, 1, 100, 5000, 601), HADULMIR_EVENT_DIFFERS);
+    CHOICE(image, 7, OUT);
+    ROWS(image, 5100, "5000 7 2");
+    EXPECT(image, e, 0);
+    EXPECT(image, cancel(7), HADULMIR_CANCELLED);
+    EXPECT(image, cancel(7), 0);
+    EXPECT(image, opt_out(7), 0);
+    CHOICE(image, 7, OUT | WAS_OUT);
+    LISTED(image, "7 5000-5600 0 cancelled out");
+    ROWS(image, 5600, "");
+    EXPECT(image, event(7, 0, 1, 100, 6000, 600), HADULMIR_RECEIVED);
+    CHOICE(image, 7, 0);
+    ROWS(image, 6600, "6000 7 2; 6600 7 3");
+}
+
+#define TURNS 4
+
+/*
+ * The code at the end of an event from 5000 to 5010 if the user opts out, in, out, in at these clocks, the last ones of which may be missing.
+ * The clock goes by `step` seconds at most.
+ */
+static uint8_t code_after(const uint64_t *turns, uint64_t step)
+{
+    uint8_t image[IMAGE];
+    uint64_t clock = 4990;
+    size_t done = 0;
+    int32_t rows;
+    uint8_t code;
+
+    begin(image, clock);
+    EXPECT(image, event(1, 0, 1, 100, 5000, 10), HADULMIR_RECEIVED);
+    do {
+        for (; done < TURNS && turns[done] == clock; done++)
+            EXPECT(image, done % 2 == 0 ? opt_out(1) : opt_in(1), done % 2 == 0 ? HADULMIR_OPTED_OUT : HADULMIR_OPTED_IN);
+        clock = clock + step < 5010 ? clock + step : 5010;
+        if (done < TURNS && turns[done] != 0 && turns[done] < clock)
+            clock = turns[done];
+        rows = call(image, set_clock(clock, ROWS_ROOM));
+    } while (clock < 5010);
+    code = rows > 0 ? hadulmir_row_at(lent_bytes, (size_t)rows - 1).code : 0;
+    EXPECT(image, opt_out(1), HADULMIR_NOT_HELD); /* at the clock of its end it is held no more */
+    EXPECT(image, opt_in(1), HADULMIR_NOT_HELD);
+    return code;
+}
+
+/* A choice counts from the second after its clock on: each side of the start, of the last second before the end, and of the end. */
+static void test_choice_codes(void)
+{
+    static const struct {
+        uint8_t code;
+        uint64_t turns[TURNS];
+    } cases[] = {
+        {HADULMIR_COMPLETED, {0}}, {HADULMIR_COMPLETED, {4990, 4990}}, {HADULMIR_COMPLETED, {4990, 4999}},
+        {HADULMIR_COMPLETED, {4999, 4999}}, {HADULMIR_COMPLETED, {5000, 5000}}, {HADULMIR_COMPLETED, {5008, 5008}},
+        {HADULMIR_COMPLETED, {5009}}, {HADULMIR_COMPLETED, {5009, 5009}}, {HADULMIR_COMPLETED, {4990, 4999, 5009}},
+        {HADULMIR_NOT_PARTICIPATED, {4990}}, {HADULMIR_NOT_PARTICIPATED, {4999}}, {HADULMIR_NOT_PARTICIPATED, {4999, 5000, 5000}},
+        {HADULMIR_NOT_PARTICIPATED, {4999, 5009}}, {HADULMIR_NOT_PARTICIPATED, {4999, 5009, 5009}},
+        {HADULMIR_PARTLY_OPTED_OUT, {5000}}, {HADULMIR_PARTLY_OPTED_OUT, {5001}}, {HADULMIR_PARTLY_OPTED_OUT, {5008}},
+        {HADULMIR_PARTLY_OPTED_OUT, {4999, 5000, 5001}}, {HADULMIR_PARTLY_OPTED_OUT, {4999, 5008, 5009}},
+        {HADULMIR_PARTLY_OPTED_OUT, {5003, 5005, 5009}}, {HADULMIR_PARTLY_OPTED_OUT, {5003, 5009, 5009}},
+        {HADULMIR_PARTLY_OPTED_IN, {4999, 5000}}, {HADULMIR_PARTLY_OPTED_IN, {4999, 5008}}, {HADULMIR_PARTLY_OPTED_IN, {5000, 5001}},
+        {HADULMIR_PARTLY_OPTED_IN, {5008, 5009}}, {HADULMIR_PARTLY_OPTED_IN, {5003, 5009}},
+        {HADULMIR_PARTLY_OPTED_IN, {4999, 5003, 5005, 5009}}, {HADULMIR_PARTLY_OPTED_IN, {5003, 5005, 5009, 5009}}};
+    size_t i;
+
+    for (i = 0; i < sizeof cases / sizeof cases[0]; i++) {
+        CHECK(code_after(cases[i].turns, 1) == cases[i].code);
+        CHECK(code_after(cases[i].turns, 3) == cases[i].code);
+        CHECK(code_after(cases[i].turns, 100) == cases[i].code);
+    }
+}
+
+/* Events of one second, and one received late: the clock of the choice is the one before the only second, or is that second. */
+static void test_choice_short(void)
+{
+    uint8_t image[IMAGE];
+
+    begin(image, 4999);
+    EXPECT(image, event(1, 0, 1, 100, 5000, 1), HADULMIR_RECEIVED);
+    EXPECT(image, event(2, 0, 2, 100, 5000, 1), HADULMIR_RECEIVED);
+    EXPECT(image, event(3, 0, 4, 100, 4900, 102), HADULMIR_RECEIVED);
+    EXPECT(image, event(4, 0, 8, 100, 4900, 102), HADULMIR_RECEIVED);
+    EXPECT(image, opt_out(1), HADULMIR_OPTED_OUT);
+    EXPECT(image, opt_out(3), HADULMIR_OPTED_OUT);
+    ROWS(image, 5000, "5000 1 2; 5000 2 2; 5000 3 2; 5000 4 2");
+    EXPECT(image, opt_in(1), HADULMIR_OPTED_IN);
+    EXPECT(image, opt_out(2), HADULMIR_OPTED_OUT);
+    EXPECT(image, opt_in(3), HADULMIR_OPTED_IN);
+    EXPECT(image, opt_out(4), HADULMIR_OPTED_OUT);
+    ROWS(image, 5001, "5001 1 10; 5001 2 3");
+    ROWS(image, 5002, "5002 3 9; 5002 4 8");
+}
+
+/* The four codes of an end go by id and not by code, before 7 and 2. */
+static void test_choice_order(void)
+{
+    uint8_t image[IMAGE];
+    uint64_t id;
+
+    begin(image, 4000);
+    for (id = 1; id <= 6; id++)
+        EXPECT(image, event(id, 0, UINT32_C(1) << id, 100, 5000, id < 6 ? 600 : 900), HADULMIR_RECEIVED);
+    EXPECT(image, event(7, 0, UINT32_C(1) << 6, 200, 5600, 100), HADULMIR_RECEIVED);
+    EXPECT(image, event(0, 0, 1, 100, 5600, 100), HADULMIR_RECEIVED);
+    EXPECT(image, opt_out(1), HADULMIR_OPTED_OUT);
+    EXPECT(image, opt_out(3), HADULMIR_OPTED_OUT);
+    EXPECT(image, opt_out(6), HADULMIR_OPTED_OUT);
+    ROWS(image, 5000, "5000 1 2; 5000 2 2; 5000 3 2; 5000 4 2; 5000 5 2; 5000 6 2");
+    EXPECT(image, opt_out(4), HADULMIR_OPTED_OUT);
+    EXPECT(image, opt_in(3), HADULMIR_OPTED_IN);
+    ROWS(image, 5600, "5600 1 10; 5600 2 3; 5600 3 9; 5600 4 8; 5600 5 3; 5600 6 7; 5600 0 2; 5600 7 2");
+    ROWS(image, 6000, "5700 0 3; 5700 7 3");
+}
+
+/* A question goes by the choice at once: the best default or nobody, and no lesser event; a better one takes the control as ever. */
+static void test_choice_ask(void)
+{
+    uint8_t image[IMAGE];
+
+    begin(image, 4000);
+    EXPECT(image, add(1, 2, 0x1), 0);
+    EXPECT(image, add(2, 0, 0x1), 0);
+    EXPECT(image, event(10, 0, 3, 100, 5000, 600), HADULMIR_RECEIVED);
+    EXPECT(image, event(20, 1, 4, 100, 5000, 600), HADULMIR_RECEIVED);
+    EXPECT(image, event(30, 1, 2, 200, 5100, 100), HADULMIR_RECEIVED);
+    EXPECT(image, event(40, 2, 1, 50, 5200, 100), HADULMIR_RECEIVED);
+    ROWS(image, 5000, "5000 10 2; 5000 20 2");
+    HOLDER(image, 0, 10);
+    EXPECT(image, opt_out(10), HADULMIR_OPTED_OUT);
+    FALLS_BACK(image, 0, 2);
+    NONE(image, 1);
+    HOLDER(image, 2, 20);
+    EXPECT(image, ask(32, 0), HADULMIR_CONTROL_TOO_LARGE);
+    LISTED(image, "10 5000-5600 3 out; 20 5000-5600 4; 30 5100-5200 0; 40 5200-5300 0");
+    ROWS(image, 5100, "5100 30 7");
+    NONE(image, 1);
+    ROWS(image, 5200, "5200 40 2");
+    HOLDER(image, 0, 40);
+    EXPECT(image, opt_in(10), HADULMIR_OPTED_IN);
+    HOLDER(image, 0, 40);
+    HOLDER(image, 1, 10);
+    EXPECT(image, opt_out(40), HADULMIR_OPTED_OUT);
+    FALLS_BACK(image, 0, 2);
+    LISTED(image, "10 5000-5600 2; 20 5000-5600 4; 40 5200-5300 1 out");
+    EXPECT(image, opt_out(20), HADULMIR_OPTED_OUT);
+    NONE(image, 2);
+    EXPECT(image, cancel(20), HADULMIR_CANCELLED);
+    EXPECT(image, opt_in(20), HADULMIR_OPTED_IN);
+    NONE(image, 2);
+    ROWS(image, 6000, "5300 40 8; 5600 10 9");
+}
+
+/* What is noted of a second: by the choice that was made before it, from the start on, also while a part of the controls is held. */
+static void test_choice_noted(void)
+{
+    uint8_t image[IMAGE], wanted[IMAGE];
+    const struct op first = event(1, 0, 3, 100, 5000, 600), second = event(2, 0, 1, 200, 5001, 100);
+
+    begin(image, 4000);
+    EXPECT(image, first, HADULMIR_RECEIVED);
+    EXPECT(image, second, HADULMIR_RECEIVED);
+    EXPECT(image, opt_out(1), HADULMIR_OPTED_OUT);
+    ROWS(image, 4999, "");
+    CHOICE(image, 1, OUT);
+    ROWS(image, 5000, "5000 1 2");
+    CHOICE(image, 1, OUT | WAS_OUT);
+    EXPECT(image, opt_in(1), HADULMIR_OPTED_IN);
+    ROWS(image, 5000, "");
+    CHOICE(image, 1, WAS_OUT);
+    ROWS(image, 5001, "5001 2 2");
+    EXPECT(image, opt_out(2), HADULMIR_OPTED_OUT);
+    blank_image(wanted, 5001);
+    put_program(wanted, 0, 1, 0);
+    put_event(wanted, first, 5000, 2, 0, WAS_IN | WAS_OUT);
+    put_event(wanted, second, 5001, 1, 0, OUT | WAS_IN);
+    CHECK(same(image, wanted));
+    ROWS(image, 5600, "5101 2 8; 5600 1 9");
+}
+
+/* An event that holds nothing is noted nothing of: superseded, cancelled, started without a control. The choice itself may still be made. */
+static void test_choice_frozen(void)
+{
+    uint8_t image[IMAGE];
+
+    begin(image, 4000);
+    EXPECT(image, event(1, 0, 1, 100, 5000, 600), HADULMIR_RECEIVED);
+    EXPECT(image, event(2, 0, 1, 200, 5200, 100), HADULMIR_RECEIVED);
+    EXPECT(image, event(3, 0, 2, 100, 5000, 600), HADULMIR_RECEIVED);
+    EXPECT(image, event(4, 0, 1, 50, 5100, 600), HADULMIR_RECEIVED);
+    EXPECT(image, event(5, 0, 4, 50, 5190, 600), HADULMIR_RECEIVED);
+    EXPECT(image, opt_out(5), HADULMIR_OPTED_OUT);
+    EXPECT(image, cancel(5), HADULMIR_CANCELLED);
+    ROWS(image, 5199, "5000 1 2; 5000 3 2; 5100 4 7");
+    EXPECT(image, opt_out(1), HADULMIR_OPTED_OUT);
+    EXPECT(image, opt_out(3), HADULMIR_OPTED_OUT);
+    EXPECT(image, cancel(3), HADULMIR_CANCELLED);
+    EXPECT(image, opt_out(4), HADULMIR_OPTED_OUT);
+    ROWS(image, 5200, "5200 1 7; 5200 2 2");
+    CHOICE(image, 1, OUT | WAS_IN);
+    CHOICE(image, 2, WAS_IN);
+    CHOICE(image, 3, OUT | WAS_IN);
+    CHOICE(image, 4, OUT);
+    CHOICE(image, 5, OUT);
+    EXPECT(image, opt_in(1), HADULMIR_OPTED_IN);
+    EXPECT(image, opt_in(4), HADULMIR_OPTED_IN);
+    ROWS(image, 5599, "5300 2 3");
+    CHOICE(image, 1, WAS_IN);
+    CHOICE(image, 3, OUT | WAS_IN);
+    CHOICE(image, 4, 0);
+    ROWS(image, 6000, "");
+}
+
+/* As many events as there can be, each opted out of: only the codes of their ends are others. */
+static void test_choice_full(void)
+{
+    uint8_t image[IMAGE];
+    int32_t i;
+
+    fill(image);
+    for (i = 0; i < HADULMIR_EVENTS_AT_MOST; i++) {
+        EXPECT(image, opt_out(UINT64_C(147) - (uint64_t)i), HADULMIR_OPTED_OUT);
+        EXPECT(image, opt_out(UINT64_C(148) + (uint64_t)i), HADULMIR_NOT_HELD);
+    }
+    EXPECT(image, list(RECORDS_ROOM), HADULMIR_EVENTS_AT_MOST);
+    for (i = 0; i < HADULMIR_EVENTS_AT_MOST; i++)
+        CHECK(hadulmir_record_at(lent_bytes, (size_t)i).entry.out == 1);
+    EXPECT(image, set_clock(6000, ROWS_ROOM), HADULMIR_ROWS_AT_MOST);
+    for (i = 0; i < HADULMIR_ROWS_AT_MOST; i++)
+        CHECK(hadulmir_row_at(lent_bytes, (size_t)i).code == (i % 2 == 0 ? HADULMIR_STARTED : HADULMIR_NOT_PARTICIPATED));
+}
+
 /* IMAGES MADE BY HAND */
 
 /* No list of calls leads to these images, yet they keep every rule; the rules run on from them. */
@@ -1166,7 +1535,7 @@ static void test_unreachable(void)
     /* An effective start later than the drawn start and than the second after the clock. */
     blank_image(image, 4000);
     put_program(image, 0, 1, 0);
-    put_event(image, e, 5500, 0, 0);
+    put_event(image, e, 5500, 0, 0, 0);
     LISTED(image, "1 5500-5600 0 earliest 5000");
     EXPECT(image, e, 0);
     ROWS(image, 5499, "");
@@ -1175,9 +1544,9 @@ static void test_unreachable(void)
     /* The better event has started and holds nothing, beside a worse one that holds: it gains nothing and blocks nobody. */
     blank_image(image, 5100);
     put_program(image, 0, 1, 0);
-    put_event(image, e, 5000, 1, 0);
-    put_event(image, event(2, 0, 1, 200, 5000, 900), 5000, 0, 0);
-    put_event(image, event(3, 0, 1, 50, 5650, 10), 5650, 0, 0);
+    put_event(image, e, 5000, 1, 0, WAS_IN);
+    put_event(image, event(2, 0, 1, 200, 5000, 900), 5000, 0, 0, 0);
+    put_event(image, event(3, 0, 1, 50, 5650, 10), 5650, 0, 0, 0);
     HOLDER(image, 0, 1);
     LISTED(image, "1 5000-5600 1; 2 5000-5900 0; 3 5650-5660 0");
     ROWS(image, 5601, "5600 1 3");
@@ -1187,7 +1556,7 @@ static void test_unreachable(void)
     /* A started event that holds less than it carries, though nobody has the rest. */
     blank_image(image, 5100);
     put_program(image, 0, 1, 0);
-    put_event(image, event(1, 0, 7, 100, 5000, 600), 5100, 2, 0);
+    put_event(image, event(1, 0, 7, 100, 5000, 600), 5100, 2, 0, WAS_IN);
     NONE(image, 0);
     HOLDER(image, 1, 1);
     ROWS(image, 6000, "5600 1 3");
@@ -1195,8 +1564,8 @@ static void test_unreachable(void)
     /* Started at clock 0, with and without a control. */
     blank_image(image, 0);
     put_program(image, 0, 1, 0);
-    put_event(image, drawn(event(1, 0, 1, 100, 3600, 600), -3600, -3600, 0, 0), 0, 1, 0);
-    put_event(image, drawn(event(2, 0, 2, 100, 3600, 600), -3600, -3600, 0, 0), 0, 0, 0);
+    put_event(image, drawn(event(1, 0, 1, 100, 3600, 600), -3600, -3600, 0, 0), 0, 1, 0, WAS_IN);
+    put_event(image, drawn(event(2, 0, 2, 100, 3600, 600), -3600, -3600, 0, 0), 0, 0, 0, 0);
     HOLDER(image, 0, 1);
     NONE(image, 1);
     LISTED(image, "1 0-600 1; 2 0-600 0");
@@ -1205,14 +1574,14 @@ static void test_unreachable(void)
     /* What is held at the clock of the image can be lost in the next second. */
     blank_image(image, 5100);
     put_program(image, 0, 1, 0);
-    put_event(image, e, 5000, 1, 0);
-    put_event(image, event(2, 0, 1, 200, 5101, 10), 5101, 0, 0);
+    put_event(image, e, 5000, 1, 0, WAS_IN);
+    put_event(image, event(2, 0, 1, 200, 5101, 10), 5101, 0, 0, 0);
     ROWS(image, 5101, "5101 1 7; 5101 2 2");
 
     /* Number 9 is no rule of images: start + duration has passed, the effective end has not. A delivery then answers 0. */
     blank_image(image, 5650);
     put_program(image, 0, 1, 0);
-    put_event(image, drawn(e, 0, 0, 100, 100), 5699, 0, 0);
+    put_event(image, drawn(e, 0, 0, 100, 100), 5699, 0, 0, 0);
     EXPECT(image, drawn(e, 0, 0, 100, 100), 0);
     ROWS(image, 5700, "5699 1 2; 5700 1 3");
 
@@ -1220,20 +1589,48 @@ static void test_unreachable(void)
     blank_image(image, 5100);
     put_program(image, 0, 1, 0);
     put_program(image, 5, 191, 0xFFFFFFFFu);
-    put_event(image, event(1, 5, 3, 100, 5000, 600), 5000, 1, 0);
-    put_event(image, event(2, 0, 3, 100, 5000, 500), 5000, 2, 0);
+    put_event(image, event(1, 5, 3, 100, 5000, 600), 5000, 1, 0, WAS_IN);
+    put_event(image, event(2, 0, 3, 100, 5000, 500), 5000, 2, 0, WAS_IN);
     HOLDER(image, 0, 1);
     HOLDER(image, 1, 2);
     FALLS_BACK(image, 2, 5);
     ROWS(image, 6000, "5500 2 3; 5600 1 3");
 }
 
+/* Whatever the choice in a sound image: the code at the end of an event that holds, from each of the two last seconds before it. */
+static void test_choice_by_hand(void)
+{
+    static const uint8_t codes[2][6] = {{3, 8, 9, 10, 9, 8}, {3, 3, 10, 10, 9, 8}};
+    const struct op e = event(1, 0, 1, 100, 5000, 600);
+    uint8_t image[IMAGE], choice;
+    char rows[32];
+    uint64_t clock;
+
+    for (choice = WAS_IN; choice <= (OUT | WAS_IN | WAS_OUT); choice++)
+        for (clock = 5598; clock <= 5599; clock++) {
+            blank_image(image, clock);
+            put_program(image, 0, 1, 0);
+            put_event(image, e, 5000, 1, 0, choice);
+            snprintf(rows, sizeof rows, "5600 1 %u", (unsigned)codes[clock - 5598][choice - WAS_IN]);
+            ROWS(image, 5600, rows);
+        }
+    /* one that has started and holds nothing: no code, and the choice stays */
+    for (choice = 0; choice <= (OUT | WAS_IN | WAS_OUT); choice++) {
+        blank_image(image, 5100);
+        put_program(image, 0, 1, 0);
+        put_event(image, e, 5000, 0, choice % 2, choice);
+        ROWS(image, 5599, "");
+        CHOICE(image, 1, choice);
+        ROWS(image, 5600, "");
+    }
+}
+
 /* Arguments that, on an accepted image, would be refused by another number, or accepted: number 2 comes first. */
 static void all_refuse_at(const uint8_t *image, size_t len, int line)
 {
     const struct op ops[] = {
-        add(6, 1, 0), add(255, 3, 0), event(77, 0, 4, 0, 9000, 9), event(10, 9, 0, 0, 0, 0), cancel(10), cancel(1),
-        set_clock(5200, 1632), set_clock(0, 0), ask(0, 8), ask(99, 0), list(2592), list(0)};
+        add(6, 1, 0), add(255, 3, 0), event(77, 0, 4, 0, 9000, 9), event(10, 9, 0, 0, 0, 0), cancel(10), cancel(1), opt_out(10), opt_out(1),
+        opt_in(10), opt_in(1), set_clock(5200, ROWS_ROOM), set_clock(0, 0), ask(0, 8), ask(99, 0), list(RECORDS_ROOM), list(0)};
     uint8_t copy[2 * IMAGE];
     size_t i;
 
@@ -1254,9 +1651,9 @@ static void sound_image(uint8_t *image)
     blank_image(image, 5100);
     put_program(image, 0, 1, 0xF);
     put_program(image, 2, 191, 0);
-    put_event(image, drawn(event(10, 0, 3, 100, 5000, 600), -100, -50, 100, 50), 4950, 1, 0);
-    put_event(image, event(20, 2, 1, 200, 5000, 600), 5000, 0, 1);
-    put_event(image, event(30, 0, 2, 300, 5200, 600), 5200, 0, 0);
+    put_event(image, drawn(event(10, 0, 3, 100, 5000, 600), -100, -50, 100, 50), 4950, 1, 0, WAS_IN);
+    put_event(image, event(20, 2, 1, 200, 5000, 600), 5000, 0, 1, 0);
+    put_event(image, event(30, 0, 2, 300, 5200, 600), 5200, 0, 0, 0);
 }
 
 /* One number of the sound image changed: `size` bytes at `at`. */
@@ -1275,22 +1672,21 @@ static void unbroken_at(size_t at, size_t size, uint64_t number, int line)
 
     sound_image(image);
     put(image + at, size, number);
-    expect_at(image, list(162), 3, line);
+    expect_at(image, list(3 * HADULMIR_RECORD_SIZE), 3, line);
 }
 
 #define BREAKS(at, size, number) broken_at((at), (size), (number), __LINE__)
 #define KEEPS(at, size, number) unbroken_at((at), (size), (number), __LINE__)
-#define PROGRAM(n) (9 + 6 * (size_t)(n))
-#define ENTRY(i) (HADULMIR_EVENTS_AT + HADULMIR_ENTRY_SIZE * (size_t)(i))
 
 static void test_broken(void)
 {
-    static const size_t lengths[] = {0, 1, 8, 9, 57, 103, IMAGE - 1, IMAGE + 1, 2 * IMAGE};
+    static const size_t lengths[] = {0, 1, HADULMIR_COUNT_AT, HADULMIR_PROGRAMS_AT, ENTRY(0), ENTRY(1), IMAGE - HADULMIR_EVENTS_AT_MOST,
+                                     IMAGE - 1, IMAGE + 1, 2 * IMAGE};
     uint8_t image[IMAGE], other[2 * IMAGE];
     size_t i;
 
     sound_image(image);
-    EXPECT(image, list(162), 3);
+    EXPECT(image, list(3 * HADULMIR_RECORD_SIZE), 3);
     EXPECT(image, ask(0, 8), HADULMIR_EVENT);
 
     /* length */
@@ -1306,22 +1702,22 @@ static void test_broken(void)
     all_refuse_at(image, IMAGE, __LINE__);
     blank_image(image, UINT64_MAX);
     all_refuse_at(image, IMAGE, __LINE__);
-    BREAKS(8, 1, 49);
-    BREAKS(8, 1, 255);
+    BREAKS(HADULMIR_COUNT_AT, 1, 49);
+    BREAKS(HADULMIR_COUNT_AT, 1, 255);
 
     /* marks */
     BREAKS(PROGRAM(0), 1, 2);
     BREAKS(PROGRAM(7), 1, 255);
-    BREAKS(ENTRY(1) + 45, 1, 2);
-    BREAKS(ENTRY(0) + 45, 1, 255);
-    BREAKS(ENTRY(47) + 45, 1, 2);
+    BREAKS(ENTRY(1) + CANCELLED_AT, 1, 2);
+    BREAKS(ENTRY(0) + CANCELLED_AT, 1, 255);
+    BREAKS(ENTRY(47) + CANCELLED_AT, 1, 2);
 
     /* unused entries zero */
     BREAKS(PROGRAM(1) + 1, 1, 1);
     BREAKS(PROGRAM(7) + 2, 4, 1);
     BREAKS(PROGRAM(3) + 2, 4, 0x80000000u);
-    BREAKS(8, 1, 2);
-    BREAKS(8, 1, 4);
+    BREAKS(HADULMIR_COUNT_AT, 1, 2);
+    BREAKS(HADULMIR_COUNT_AT, 1, 4);
     for (i = 0; i < HADULMIR_ENTRY_SIZE; i++) {
         BREAKS(ENTRY(3) + i, 1, 1);
         BREAKS(ENTRY(47) + i, 1, 1);
@@ -1370,19 +1766,19 @@ static void test_broken(void)
     KEEPS(ENTRY(0) + 31, 2, 100);
     blank_image(image, 4000);
     put_program(image, 0, 1, 0);
-    put_event(image, drawn(event(1, 0, 1, 0, 5000, 10), 0, 0, -10, -9), 5000, 0, 0);
-    EXPECT(image, list(54), 1);
+    put_event(image, drawn(event(1, 0, 1, 0, 5000, 10), 0, 0, -10, -9), 5000, 0, 0, 0);
+    EXPECT(image, list(HADULMIR_RECORD_SIZE), 1);
     put(entry_of(image, 0) + 31, 2, hadulmir_signed(-10));
     all_refuse_at(image, IMAGE, __LINE__);
 
     /* effective start: not before the drawn start, before the effective end */
-    BREAKS(ENTRY(0) + 33, 8, 4949);
-    KEEPS(ENTRY(0) + 33, 8, 4951);
-    BREAKS(ENTRY(2) + 33, 8, 5199);
-    KEEPS(ENTRY(2) + 33, 8, 5799);
-    BREAKS(ENTRY(2) + 33, 8, 5800);
-    BREAKS(ENTRY(2) + 33, 8, UINT64_MAX);
-    BREAKS(ENTRY(2) + 33, 8, 0);
+    BREAKS(ENTRY(0) + EFFECTIVE_START_AT, 8, 4949);
+    KEEPS(ENTRY(0) + EFFECTIVE_START_AT, 8, 4951);
+    BREAKS(ENTRY(2) + EFFECTIVE_START_AT, 8, 5199);
+    KEEPS(ENTRY(2) + EFFECTIVE_START_AT, 8, 5799);
+    BREAKS(ENTRY(2) + EFFECTIVE_START_AT, 8, 5800);
+    BREAKS(ENTRY(2) + EFFECTIVE_START_AT, 8, UINT64_MAX);
+    BREAKS(ENTRY(2) + EFFECTIVE_START_AT, 8, 0);
 
     /* effective end after the clock */
     KEEPS(0, 8, 5599);
@@ -1391,29 +1787,60 @@ static void test_broken(void)
     BREAKS(0, 8, HADULMIR_CLOCK_AT_MOST);
 
     /* held mask: within the controls, zero before the start, zero if cancelled, no bit shared */
-    BREAKS(ENTRY(0) + 41, 4, 4);
-    BREAKS(ENTRY(0) + 41, 4, 0x80000001u);
-    KEEPS(ENTRY(0) + 41, 4, 3);
-    KEEPS(ENTRY(0) + 41, 4, 0);
-    BREAKS(ENTRY(2) + 41, 4, 2);
+    BREAKS(ENTRY(0) + HELD_AT, 4, 4);
+    BREAKS(ENTRY(0) + HELD_AT, 4, 0x80000001u);
+    KEEPS(ENTRY(0) + HELD_AT, 4, 3);
+    KEEPS(ENTRY(0) + HELD_AT, 4, 0);
+    BREAKS(ENTRY(2) + HELD_AT, 4, 2);
     BREAKS(0, 8, 4949);
     KEEPS(0, 8, 4950);
-    BREAKS(ENTRY(1) + 41, 4, 1);
-    BREAKS(ENTRY(0) + 45, 1, 1);
+    BREAKS(ENTRY(1) + HELD_AT, 4, 1);
+    BREAKS(ENTRY(0) + CANCELLED_AT, 1, 1);
     blank_image(image, 5100);
     put_program(image, 0, 1, 0);
-    put_event(image, event(1, 0, 3, 0, 5000, 600), 5000, 1, 0);
-    put_event(image, event(2, 0, 4, 0, 5000, 600), 5000, 4, 0);
-    put_event(image, event(3, 0, 3, 0, 5000, 600), 5000, 2, 0);
-    EXPECT(image, list(162), 3);
-    put(entry_of(image, 2) + 41, 4, 3);
+    put_event(image, event(1, 0, 3, 0, 5000, 600), 5000, 1, 0, WAS_IN);
+    put_event(image, event(2, 0, 4, 0, 5000, 600), 5000, 4, 0, WAS_IN);
+    put_event(image, event(3, 0, 3, 0, 5000, 600), 5000, 2, 0, WAS_IN);
+    EXPECT(image, list(3 * HADULMIR_RECORD_SIZE), 3);
+    put(entry_of(image, 2) + HELD_AT, 4, 3);
     all_refuse_at(image, IMAGE, __LINE__);
-    put(entry_of(image, 2) + 41, 4, 1);
+    put(entry_of(image, 2) + HELD_AT, 4, 1);
     all_refuse_at(image, IMAGE, __LINE__);
 
     /* A fresh image can be made over any bytes. */
     CHECK(hadulmir_fresh(image, IMAGE) == 0);
     EXPECT(image, list(0), 0);
+}
+
+/* Every choice of an event that holds, one that was cancelled, one that waits, and of unused entries. */
+static void test_broken_choice(void)
+{
+    uint8_t image[IMAGE];
+    unsigned value;
+
+    for (value = 0; value < 256; value++) {
+        (WAS_IN <= value && value <= 7 ? unbroken_at : broken_at)(ENTRY(0) + CHOICE_AT, 1, value, __LINE__);
+        (value <= 7 ? unbroken_at : broken_at)(ENTRY(1) + CHOICE_AT, 1, value, __LINE__);
+        (value <= OUT ? unbroken_at : broken_at)(ENTRY(2) + CHOICE_AT, 1, value, __LINE__);
+        (value == 0 ? unbroken_at : broken_at)(ENTRY(3) + CHOICE_AT, 1, value, __LINE__);
+        (value == 0 ? unbroken_at : broken_at)(ENTRY(47) + CHOICE_AT, 1, value, __LINE__);
+    }
+    /* without a control, each choice of one that has started; with one, not both bits zero */
+    for (value = 0; value <= 7; value++) {
+        sound_image(image);
+        image[ENTRY(0) + CHOICE_AT] = (uint8_t)value;
+        put(entry_of(image, 0) + HELD_AT, 4, 0);
+        EXPECT(image, list(3 * HADULMIR_RECORD_SIZE), 3);
+    }
+    /* noted before the start, and at it */
+    for (value = WAS_IN; value <= 7; value++) {
+        sound_image(image);
+        image[ENTRY(2) + CHOICE_AT] = (uint8_t)value;
+        put(image, 8, 5199);
+        all_refuse_at(image, IMAGE, __LINE__);
+        put(image, 8, 5200);
+        EXPECT(image, list(3 * HADULMIR_RECORD_SIZE), 3);
+    }
 }
 
 /* The rules of images once more, written from document 01 for this test. */
@@ -1434,7 +1861,7 @@ static int event_keeps_rules(const uint8_t *image, const struct hadulmir_entry *
     int64_t drawn_start = (int64_t)e->start + e->start_draw;
     int64_t end = drawn_start + e->duration + e->duration_draw;
 
-    if (e->program > 7 || image[9 + 6 * e->program] != 1)
+    if (e->program > 7 || image[PROGRAM(e->program)] != 1)
         return 0;
     if (e->controls == 0 || e->start < 3600 || e->duration == 0 || (int64_t)e->duration + e->duration_draw < 1)
         return 0;
@@ -1449,29 +1876,40 @@ static int event_keeps_rules(const uint8_t *image, const struct hadulmir_entry *
     return entry->held == 0 || (clock >= entry->effective_start && !entry->cancelled);
 }
 
+/* The rules of a choice, from document 02: three bits, two of them zero before the start, and not both zero beside a held control. */
+static int choice_keeps_rules(uint8_t choice, int started, uint32_t held)
+{
+    int noted = (choice & (WAS_IN | WAS_OUT)) != 0;
+
+    return (choice & ~(OUT | WAS_IN | WAS_OUT)) == 0 && (started || !noted) && (noted || held == 0);
+}
+
 static int keeps_rules(const uint8_t *image)
 {
+    uint8_t count = image[HADULMIR_COUNT_AT];
     uint32_t taken = 0;
     uint64_t last = 0;
     size_t i;
 
-    if (hadulmir_clock_of(image) > HADULMIR_CLOCK_AT_MOST || image[8] > 48)
+    if (hadulmir_clock_of(image) > HADULMIR_CLOCK_AT_MOST || count > HADULMIR_EVENTS_AT_MOST)
         return 0;
     for (i = 0; i < 8; i++) {
-        const uint8_t *p = image + 9 + 6 * i;
+        const uint8_t *p = image + PROGRAM(i);
 
-        if (p[0] > 1 || (p[0] == 0 && hadulmir_number_at(p, 6) != 0))
+        if (p[0] > 1 || (p[0] == 0 && hadulmir_number_at(p, HADULMIR_PROGRAM_SIZE) != 0))
             return 0;
         if (p[0] == 1 && !(p[1] <= 2 || (65 <= p[1] && p[1] <= 191)))
             return 0;
     }
-    for (i = ENTRY(image[8]); i < IMAGE; i++)
+    for (i = ENTRY(count); i < IMAGE; i++)
         if (image[i] != 0)
             return 0;
-    for (i = 0; i < image[8]; i++) {
+    for (i = 0; i < count; i++) {
         struct hadulmir_entry e = hadulmir_entry_of(image, i);
 
         if ((i > 0 && e.event.id <= last) || !event_keeps_rules(image, &e) || (e.held & taken) != 0)
+            return 0;
+        if (!choice_keeps_rules(image[ENTRY(i) + CHOICE_AT], hadulmir_clock_of(image) >= e.effective_start, e.held))
             return 0;
         last = e.event.id;
         taken |= e.held;
@@ -1493,9 +1931,11 @@ static void change_a_number(uint8_t *image)
 {
     static const struct {
         uint8_t at, size;
-    } fields[] = {{0, 8}, {8, 1}, {9, 4}, {13, 4}, {17, 4}, {21, 4}, {25, 2}, {27, 2}, {29, 2}, {31, 2}, {33, 8}, {41, 4}, {45, 1}};
-    uint32_t f = next_random() % 13;
-    size_t entries = image[8] > 0 && image[8] < 48 ? image[8] + 1u : 48;
+    } fields[] = {{0, 8}, {8, 1}, {9, 4}, {13, 4}, {17, 4}, {21, 4}, {25, 2}, {27, 2}, {29, 2}, {31, 2},
+                  {EFFECTIVE_START_AT, 8}, {HELD_AT, 4}, {CANCELLED_AT, 1}, {CHOICE_AT, 1}};
+    uint32_t f = next_random() % (sizeof fields / sizeof fields[0]);
+    uint8_t count = image[HADULMIR_COUNT_AT];
+    size_t entries = count > 0 && count < HADULMIR_EVENTS_AT_MOST ? count + 1u : HADULMIR_EVENTS_AT_MOST;
     size_t at = ENTRY(next_random() % entries) + fields[f].at;
     size_t size = fields[f].size;
     uint64_t old;
@@ -1505,10 +1945,10 @@ static void change_a_number(uint8_t *image)
         at = 0, size = 8;
         break;
     case 1:
-        at = PROGRAM(next_random() % 8) + next_random() % 2, size = 1;
+        at = PROGRAM(next_random() % HADULMIR_PROGRAMS_AT_MOST) + next_random() % 2, size = 1;
         break;
     case 2:
-        at = 8 + next_random() % (IMAGE - 8), size = 1;
+        at = HADULMIR_COUNT_AT + next_random() % (IMAGE - HADULMIR_COUNT_AT), size = 1;
         break;
     }
     old = hadulmir_number_at(image + at, size);
@@ -1544,16 +1984,18 @@ static void test_changed(void)
 
     sound_image(base[0]);
     fill(base[1]);
-    EXPECT(base[1], set_clock(5003, 17), 1);
+    EXPECT(base[1], set_clock(5003, HADULMIR_ROW_SIZE), 1);
     fresh(base[2]);
     begin(base[3], 4000);
     for (i = 0; i < 6; i++)
         EXPECT(base[3], event(i * i, 0, 3u << i, i % 3, 5000 + 50 * (i % 4), 300), HADULMIR_RECEIVED);
     EXPECT(base[3], cancel(4), HADULMIR_CANCELLED);
-    EXPECT(base[3], set_clock(5120, 1632), 4);
+    EXPECT(base[3], opt_out(9), HADULMIR_OPTED_OUT);
+    EXPECT(base[3], set_clock(5120, ROWS_ROOM), 4);
     for (i = 0; i < 6000; i++) {
-        const struct op ops[] = {add((uint8_t)(i % 8), 1, 1), event(i % 50, 0, 1 + i % 7, i, 5000 + i, 50), cancel(i % 30),
-                                 set_clock(hadulmir_clock_of(base[i % 4]) + i % 500, 1632), ask((uint8_t)(i % 32), 8), list(2592)};
+        const struct op ops[] = {add((uint8_t)(i % 8), 1, 1), event(i % 50, 0, 1 + i % 7, i, 5000 + i, 50), cancel(i % 30), opt_out(i % 30),
+                                 opt_in(i % 30), set_clock(hadulmir_clock_of(base[i % 4]) + i % 500, ROWS_ROOM), ask((uint8_t)(i % 32), 8),
+                                 list(RECORDS_ROOM)};
         int sound, all = 1;
 
         memcpy(image, base[i % 4], IMAGE);
@@ -1562,7 +2004,7 @@ static void test_changed(void)
         while (next_random() % 4 == 0);
         sound = keeps_rules(image);
         *(sound ? &kept : &broken) += 1;
-        for (j = 0; j < 6; j++) {
+        for (j = 0; j < sizeof ops / sizeof ops[0]; j++) {
             int32_t returned;
 
             memcpy(copy, image, IMAGE);
@@ -1576,16 +2018,17 @@ static void test_changed(void)
 
 /* LOSS OF POWER */
 
-#define OPS 26
+#define OPS 33
 
 static void day(struct op *ops)
 {
     const struct op list_of_calls[OPS] = {
-        add(0, 1, 1), add(1, 0, 2), ask(0, 8), set_clock(4000, 1632), event(1, 0, 1, 100, 5000, 600), event(2, 0, 1, 200, 5300, 60),
+        add(0, 1, 1), add(1, 0, 2), ask(0, 8), set_clock(4000, ROWS_ROOM), event(1, 0, 1, 100, 5000, 600), event(2, 0, 1, 200, 5300, 60),
         event(3, 1, 3, 50, 5350, 100), drawn(event(4, 0, 0x80000000u, 50, 5000, 500), -300, -17, 100, 9), event(1, 0, 1, 100, 5000, 600),
-        list(2592), set_clock(5000, 1632), ask(0, 8), cancel(9), set_clock(5310, 33), set_clock(5310, 34), ask(0, 8), list(200), list(230),
-        cancel(4), cancel(4), set_clock(5360, 1632), event(5, 0, 0, 0, 0, 0), event(6, 1, 4, 1, 5300, 200), ask(1, 8), set_clock(7000, 1632),
-        list(0)};
+        opt_out(3), opt_out(9), list(RECORDS_ROOM), set_clock(5000, ROWS_ROOM), ask(0, 8), opt_out(4), ask(31, 8), opt_out(4), cancel(9),
+        set_clock(5310, 2 * HADULMIR_ROW_SIZE - 1), set_clock(5310, 2 * HADULMIR_ROW_SIZE), ask(0, 8),
+        list(4 * HADULMIR_RECORD_SIZE - 1), list(4 * HADULMIR_RECORD_SIZE), cancel(4), cancel(4), set_clock(5360, ROWS_ROOM),
+        event(5, 0, 0, 0, 0, 0), event(6, 1, 4, 1, 5300, 200), ask(1, 8), opt_in(3), ask(1, 8), set_clock(7000, ROWS_ROOM), list(0)};
 
     memcpy(ops, list_of_calls, sizeof list_of_calls);
 }
@@ -1621,7 +2064,8 @@ static void run_day(uint64_t cuts, int32_t *returned, uint8_t (*lent)[LENT_AT_MO
 
 static void test_power(void)
 {
-    static const int32_t wanted[OPS] = {0, 0, 2, 0, 1, 1, 1, 1, 0, 4, 2, 1, -11, -13, 2, 1, -13, 4, 6, 0, 2, -7, 1, 1, 3, 0};
+    static const int32_t wanted[OPS] = {0, 0, 2, 0, 1, 1, 1, 1, 0, 4, -11, 4, 2, 1, 4, 0, 0, -11, -13, 2, 1, -13, 4, 6, 0, 2, -7, 1, 3, 5, 1,
+                                        3, 0};
     static uint8_t lent[2][OPS][LENT_AT_MOST], images[2][OPS][IMAGE];
     struct op ops[OPS];
     int32_t returned[2][OPS];
@@ -1649,13 +2093,18 @@ static void test_power(void)
 
 /* A FRESH IMAGE WITH WHAT STILL COUNTS, by the steps of docs/HOST.md */
 
-/* Makes `to` out of what `from` holds: programs, then the events that are not cancelled, then its clock. */
-static void move_over(uint8_t *to, const uint8_t *from)
+static void move_clock(uint8_t *to, uint64_t reading)
 {
     uint8_t rows[HADULMIR_ROWS_SIZE];
+
+    CHECK(hadulmir_set_clock(to, IMAGE, reading, rows, sizeof rows) >= 0);
+}
+
+/* Programs, and the events that are not cancelled; the user is out from the beginning of those that it was out of. */
+static void move_records(uint8_t *to, const uint8_t *from)
+{
     size_t i;
 
-    fresh(to);
     for (i = 0; i < HADULMIR_PROGRAMS_AT_MOST; i++) {
         struct hadulmir_program p = hadulmir_program_of(from, (uint8_t)i);
 
@@ -1665,10 +2114,57 @@ static void move_over(uint8_t *to, const uint8_t *from)
     for (i = 0; i < hadulmir_count_of(from); i++) {
         struct hadulmir_entry e = hadulmir_entry_of(from, i);
 
-        if (!e.cancelled)
-            CHECK(hadulmir_deliver_event(to, IMAGE, &e.event) == HADULMIR_RECEIVED);
+        if (e.cancelled)
+            continue;
+        CHECK(hadulmir_deliver_event(to, IMAGE, &e.event) == HADULMIR_RECEIVED);
+        if (e.was_out || (e.out && !e.was_in))
+            CHECK(hadulmir_opt_out(to, IMAGE, e.event.id) == HADULMIR_OPTED_OUT);
     }
-    CHECK(hadulmir_set_clock(to, IMAGE, hadulmir_clock_of(from), rows, sizeof rows) >= 0);
+}
+
+/* Of the events that the user was in and out of, and that are not done, the one that starts first; the count if there is none. */
+static size_t next_mixed(const uint8_t *from, uint64_t done)
+{
+    size_t found = hadulmir_count_of(from), i;
+
+    for (i = 0; i < hadulmir_count_of(from); i++) {
+        struct hadulmir_entry e = hadulmir_entry_of(from, i);
+
+        if ((done >> i & 1) == 0 && !e.cancelled && e.was_in && e.was_out
+            && (found == hadulmir_count_of(from) || e.effective_start < hadulmir_entry_of(from, found).effective_start))
+            found = i;
+    }
+    return found;
+}
+
+/* Opts in to these events, each at its effective start. */
+static void move_mixed(uint8_t *to, const uint8_t *from)
+{
+    uint64_t done = 0;
+    size_t i;
+
+    while ((i = next_mixed(from, done)) < hadulmir_count_of(from)) {
+        move_clock(to, hadulmir_entry_of(from, i).effective_start);
+        CHECK(hadulmir_opt_in(to, IMAGE, hadulmir_entry_of(from, i).event.id) == HADULMIR_OPTED_IN);
+        done |= UINT64_C(1) << i;
+    }
+}
+
+/* Makes `to` out of what `from` holds, by the steps of docs/HOST.md. */
+static void move_over(uint8_t *to, const uint8_t *from)
+{
+    size_t i;
+
+    fresh(to);
+    move_records(to, from);
+    move_mixed(to, from);
+    move_clock(to, hadulmir_clock_of(from));
+    for (i = 0; i < hadulmir_count_of(from); i++) {
+        struct hadulmir_entry e = hadulmir_entry_of(from, i);
+
+        if (!e.cancelled)
+            CHECK((e.out ? hadulmir_opt_out : hadulmir_opt_in)(to, IMAGE, e.event.id) >= 0);
+    }
 }
 
 static void test_fresh_again(void)
@@ -1693,29 +2189,68 @@ static void test_fresh_again(void)
     ROWS(moved, 7200, "5600 1 3; 7100 3 3");
 }
 
+/* Every choice that calls can lead to, of events that hold and of events that wait, is there in the fresh image too. */
+static void test_choices_again(void)
+{
+    static const uint32_t starts[] = {5001, 5002, 5004, 5003, 5005, 5006, 6000, 6000, 5003};
+    static const uint8_t wanted[] = {WAS_IN, OUT | WAS_OUT, OUT | WAS_IN | WAS_OUT, WAS_IN | WAS_OUT, OUT | WAS_IN, WAS_OUT, OUT, 0,
+                                     WAS_IN | WAS_OUT};
+    static const char *const rows = "5601 0 3; 5602 1 10; 5603 3 9; 5603 8 9; 5604 2 8; 5605 4 8; 5606 5 9; 6000 6 2; 6000 7 2; "
+                                    "6600 6 10; 6600 7 3";
+    uint8_t image[IMAGE], moved[IMAGE];
+    uint64_t id;
+
+    begin(image, 4000);
+    for (id = 0; id <= 8; id++)
+        EXPECT(image, event(id, 0, UINT32_C(1) << id, 100, starts[id], 600), HADULMIR_RECEIVED);
+    EXPECT(image, opt_out(1), HADULMIR_OPTED_OUT);
+    EXPECT(image, opt_out(5), HADULMIR_OPTED_OUT);
+    EXPECT(image, opt_out(6), HADULMIR_OPTED_OUT);
+    EXPECT(image, set_clock(5100, ROWS_ROOM), 7);
+    EXPECT(image, opt_out(2), HADULMIR_OPTED_OUT);
+    EXPECT(image, opt_out(3), HADULMIR_OPTED_OUT);
+    EXPECT(image, opt_out(8), HADULMIR_OPTED_OUT);
+    ROWS(image, 5200, "");
+    EXPECT(image, opt_in(3), HADULMIR_OPTED_IN);
+    EXPECT(image, opt_in(8), HADULMIR_OPTED_IN);
+    ROWS(image, 5300, "");
+    EXPECT(image, opt_out(4), HADULMIR_OPTED_OUT);
+    EXPECT(image, opt_in(5), HADULMIR_OPTED_IN);
+    for (id = 0; id <= 8; id++)
+        CHOICE(image, id, wanted[id]);
+    move_over(moved, image);
+    CHECK(same(moved, image));
+    ROWS(moved, 7000, rows);
+    ROWS(image, 7000, rows);
+}
+
 /* THE HEADER */
 
 static void test_names(void)
 {
     char version[16];
 
-    CHECK(HADULMIR_IMAGE_SIZE == 2265 && HADULMIR_ROW_SIZE == 17 && HADULMIR_ROWS_AT_MOST == 96 && HADULMIR_ROWS_SIZE == 1632);
-    CHECK(HADULMIR_ENTRY_SIZE == 46 && HADULMIR_RECORD_SIZE == 54 && HADULMIR_EVENTS_AT_MOST == 48 && HADULMIR_RECORDS_SIZE == 2592);
+    CHECK(HADULMIR_IMAGE_SIZE == 2313 && HADULMIR_ROW_SIZE == 17 && HADULMIR_ROWS_AT_MOST == 96 && HADULMIR_ROWS_SIZE == 1632);
+    CHECK(HADULMIR_ENTRY_SIZE == 47 && HADULMIR_RECORD_SIZE == 55 && HADULMIR_EVENTS_AT_MOST == 48 && HADULMIR_RECORDS_SIZE == 2640);
     CHECK(HADULMIR_ID_SIZE == 8 && HADULMIR_PROGRAMS_AT_MOST == 8 && HADULMIR_CONTROLS_AT_MOST == 32);
     CHECK(HADULMIR_CLOCK_AT_MOST == UINT64_C(9000000000));
     CHECK(HADULMIR_CLOCK_AT == 0 && HADULMIR_COUNT_AT == 8 && HADULMIR_PROGRAMS_AT == 9 && HADULMIR_PROGRAM_SIZE == 6);
-    CHECK(HADULMIR_EVENTS_AT == 57 && HADULMIR_IMAGE_LAYOUT == 1);
+    CHECK(HADULMIR_EVENTS_AT == 57 && HADULMIR_IMAGE_LAYOUT == 2);
     CHECK(HADULMIR_BAD_IMAGE == -2 && HADULMIR_PROGRAM_TOO_LARGE == -3 && HADULMIR_PROGRAM_ADDED == -4 && HADULMIR_PRIMACY_RESERVED == -5);
     CHECK(HADULMIR_PROGRAM_UNKNOWN == -6 && HADULMIR_EVENT_INVALID == -7 && HADULMIR_EVENT_DIFFERS == -8 && HADULMIR_EVENT_EXPIRED == -9);
     CHECK(HADULMIR_FULL == -10 && HADULMIR_NOT_HELD == -11 && HADULMIR_BAD_CLOCK == -12 && HADULMIR_TOO_SHORT == -13);
     CHECK(HADULMIR_CONTROL_TOO_LARGE == -14);
+    CHECK(HADULMIR_RECEIVED == 1 && HADULMIR_STARTED == 2 && HADULMIR_COMPLETED == 3 && HADULMIR_OPTED_OUT == 4 && HADULMIR_OPTED_IN == 5);
+    CHECK(HADULMIR_CANCELLED == 6 && HADULMIR_SUPERSEDED == 7 && HADULMIR_PARTLY_OPTED_OUT == 8 && HADULMIR_PARTLY_OPTED_IN == 9);
+    CHECK(HADULMIR_NOT_PARTICIPATED == 10 && HADULMIR_REJECTED_INVALID == 253 && HADULMIR_REJECTED_EXPIRED == 254);
     snprintf(version, sizeof version, "%d.%d.%d", HADULMIR_VERSION / 10000, HADULMIR_VERSION / 100 % 100, HADULMIR_VERSION % 100);
     CHECK(strcmp(version, HADULMIR_VERSION_TEXT) == 0);
 }
 
 static void test_helpers(void)
 {
-    static const uint8_t row[34] = {[24] = 9, [25] = 1, [33] = 7, [17] = 1, [18] = 2};
+    static const uint8_t row[2 * HADULMIR_ROW_SIZE] = {[24] = 9, [25] = 1, [33] = 7, [17] = 1, [18] = 2};
+    uint8_t entry[HADULMIR_ENTRY_SIZE] = {0};
     int32_t n, m;
 
     for (n = -40000; n <= 40000; n++) {
@@ -1744,6 +2279,11 @@ static void test_helpers(void)
         }
     CHECK(hadulmir_row_at(row, 1).time == UINT64_C(0x0102000000000009) && hadulmir_row_at(row, 1).id == UINT64_C(0x0100000000000000)
           && hadulmir_row_at(row, 1).code == 7);
+    for (n = 0; n < 8; n++) {
+        entry[CHOICE_AT] = (uint8_t)n;
+        CHECK(hadulmir_entry_at(entry).out == (n & OUT) && hadulmir_entry_at(entry).was_in == (n & WAS_IN) / WAS_IN
+              && hadulmir_entry_at(entry).was_out == (n & WAS_OUT) / WAS_OUT && hadulmir_entry_at(entry).cancelled == 0);
+    }
 }
 
 /* Whether an entry has the fields of test_record's event, each of them different. */
@@ -1754,7 +2294,7 @@ static int has_fields(const struct hadulmir_entry *entry)
     return e->id == UINT64_C(0x0102030405060708) && e->program == 7 && e->controls == 0xA1B2C3D4u && e->created == 0x11223344
            && e->start == 0x55667788 && e->duration == 0x99AABBCCu && e->randomize_start == -3600 && e->randomize_duration == 3599
            && e->start_draw == -2 && e->duration_draw == 3 && entry->effective_start == 0x55667786 && entry->held == 0
-           && entry->cancelled == 0;
+           && entry->cancelled == 0 && entry->out == 1 && entry->was_in == 0 && entry->was_out == 0;
 }
 
 /* A record with every field different, through the part and the helpers, and the image as its readers see it. It is listed behind another. */
@@ -1773,9 +2313,10 @@ static void test_record(void)
     memcpy(again, image, IMAGE);
     EXPECT(image, drawn(event(UINT64_C(0x0102030405060708), 7, 0xA1B2C3D4u, 0x11223344, 0x55667788, 0x99AABBCCu), -3600, -2, 3599, 3),
            HADULMIR_RECEIVED);
-    EXPECT(image, list(108), 2);
+    EXPECT(image, opt_out(UINT64_C(0x0102030405060708)), HADULMIR_OPTED_OUT);
+    EXPECT(image, list(2 * HADULMIR_RECORD_SIZE), 2);
     r = hadulmir_record_at(lent_bytes, 1);
-    CHECK(has_fields(&r.entry) && r.earliest_start == 0x55666978 && memcmp(lent_bytes + 100, earliest, 8) == 0);
+    CHECK(has_fields(&r.entry) && r.earliest_start == 0x55666978 && memcmp(lent_bytes + 2 * HADULMIR_RECORD_SIZE - 8, earliest, 8) == 0);
     CHECK(hadulmir_earliest_start_at(lent_bytes, 1) == 0x55666978 && hadulmir_earliest_start_at(lent_bytes, 0) == 5000);
     CHECK(hadulmir_effective_end(&r.entry.event) == UINT64_C(0x55667786) + 0x99AABBCCu + 3);
     CHECK(hadulmir_count_of(image) == 2);
@@ -1787,7 +2328,8 @@ static void test_record(void)
     /* the same event by its struct, as it was read out of the image */
     e = hadulmir_entry_of(image, 1);
     CHECK(has_fields(&e));
-    CHECK(hadulmir_deliver_event(again, IMAGE, &e.event) == HADULMIR_RECEIVED && same(again, image));
+    CHECK(hadulmir_deliver_event(again, IMAGE, &e.event) == HADULMIR_RECEIVED);
+    CHECK(hadulmir_opt_out(again, IMAGE, e.event.id) == HADULMIR_OPTED_OUT && same(again, image));
     CHECK(hadulmir_deliver_event(again, IMAGE, &e.event) == 0 && same(again, image));
     e.event.start_draw = 65534; /* cut off to 16 bits this is -2 */
     CHECK(hadulmir_deliver_event(again, IMAGE, &e.event) == HADULMIR_EVENT_INVALID && same(again, image));
@@ -1811,11 +2353,23 @@ int main(void)
     test_earliest();
     test_earliest_stays();
     test_example();
+    test_choice_answers();
+    test_choice_stays();
+    test_choice_codes();
+    test_choice_short();
+    test_choice_order();
+    test_choice_ask();
+    test_choice_noted();
+    test_choice_frozen();
+    test_choice_full();
     test_unreachable();
+    test_choice_by_hand();
     test_broken();
+    test_broken_choice();
     test_changed();
     test_power();
     test_fresh_again();
+    test_choices_again();
     printf("face: %u passed, %u failed\n", passed, failed);
     return failed != 0;
 }

@@ -2,6 +2,8 @@
  * Faults for the tests to find. Linked with -Wl,--wrap=NAME for each function, so that face.c calls these in place of the archive's; FAULT
  * says which of them is in. With FAULT 0 nothing is changed and face.c passes. tests/c.sh sees to it that face.c fails with each other.
  */
+#include <string.h>
+
 #include "hadulmir.h"
 
 int32_t __real_hadulmir_fresh(uint8_t *, uint64_t);
@@ -9,6 +11,8 @@ int32_t __real_hadulmir_add_program(uint8_t *, uint64_t, uint8_t, uint8_t, uint3
 int32_t __real_hadulmir_deliver(uint8_t *, uint64_t, uint64_t, uint8_t, uint32_t, uint32_t, uint32_t, uint32_t, uint16_t, uint16_t, uint16_t,
                                 uint16_t);
 int32_t __real_hadulmir_cancel(uint8_t *, uint64_t, uint64_t);
+int32_t __real_hadulmir_opt_out(uint8_t *, uint64_t, uint64_t);
+int32_t __real_hadulmir_opt_in(uint8_t *, uint64_t, uint64_t);
 int32_t __real_hadulmir_set_clock(uint8_t *, uint64_t, uint64_t, uint8_t *, uint64_t);
 int32_t __real_hadulmir_ask(const uint8_t *, uint64_t, uint8_t, uint8_t *, uint64_t);
 int32_t __real_hadulmir_list(const uint8_t *, uint64_t, uint8_t *, uint64_t);
@@ -45,42 +49,110 @@ int32_t __wrap_hadulmir_deliver(uint8_t *image, uint64_t image_len, uint64_t id,
     return FAULT == 5 && returned == 0 ? 1 : returned;
 }
 
-/* 6: the mark is set and the mask is left. */
+/* 6: the mark is set, and the last byte of the first event's mask is left. */
 int32_t __wrap_hadulmir_cancel(uint8_t *image, uint64_t image_len, uint64_t id)
 {
-    uint8_t held = image_len > 101 ? image[101] : 0;
+    const size_t mask_at = HADULMIR_EVENTS_AT + 44;
+    uint8_t held = image_len > mask_at ? image[mask_at] : 0;
     int32_t returned = __real_hadulmir_cancel(image, image_len, id);
 
     if (FAULT == 6 && returned == HADULMIR_CANCELLED)
-        image[101] = held;
+        image[mask_at] = held;
     return returned;
 }
 
-/* 7: one byte is written behind the last row. 8: one byte is written behind the buffer. 9: the last row is dropped. 10: a refused call has
-   written a row. 11: a buffer that fits is too short. */
-int32_t __wrap_hadulmir_set_clock(uint8_t *image, uint64_t image_len, uint64_t reading, uint8_t *rows, uint64_t rows_len)
+/* The choice of a held event, or NULL. */
+static uint8_t *choice_of(uint8_t *image, uint64_t id)
 {
-    int32_t returned;
+    size_t i;
 
-    if (FAULT == 11 && rows_len == HADULMIR_ROWS_SIZE && reading == 6000)
-        rows_len--;
-    returned = __real_hadulmir_set_clock(image, image_len, reading, rows, rows_len);
-    if (FAULT == 7 && returned >= 0 && rows_len > (uint64_t)returned * HADULMIR_ROW_SIZE)
-        rows[(size_t)returned * HADULMIR_ROW_SIZE] ^= 1;
-    if (FAULT == 8 && returned > 0)
-        rows[rows_len] ^= 1;
-    if (FAULT == 10 && returned == HADULMIR_TOO_SHORT && rows_len > 0)
-        rows[0] ^= 1;
-    return FAULT == 9 && returned == 2 ? 1 : returned;
+    for (i = 0; i < hadulmir_count_of(image); i++)
+        if (hadulmir_entry_of(image, i).event.id == id)
+            return image + HADULMIR_EVENTS_AT + (i + 1) * HADULMIR_ENTRY_SIZE - 1;
+    return NULL;
 }
 
-/* 12: an id is written beside a default. */
+/* 7: a repeat is a choice. 8: the second at which the choice is made counts as out. */
+int32_t __wrap_hadulmir_opt_out(uint8_t *image, uint64_t image_len, uint64_t id)
+{
+    int32_t returned = __real_hadulmir_opt_out(image, image_len, id);
+
+    if (FAULT == 8 && returned == HADULMIR_OPTED_OUT && *choice_of(image, id) > 1)
+        *choice_of(image, id) |= 4;
+    return FAULT == 7 && returned == 0 ? HADULMIR_OPTED_OUT : returned;
+}
+
+/* 9: that the user was out is forgotten. 10: an id that is not held is taken for one that the user is in for. */
+int32_t __wrap_hadulmir_opt_in(uint8_t *image, uint64_t image_len, uint64_t id)
+{
+    int32_t returned = __real_hadulmir_opt_in(image, image_len, id);
+
+    if (FAULT == 9 && returned == HADULMIR_OPTED_IN && *choice_of(image, id) == 6)
+        *choice_of(image, id) = 2;
+    return FAULT == 10 && returned == HADULMIR_NOT_HELD ? 0 : returned;
+}
+
+static int is_end(struct hadulmir_row row)
+{
+    return row.code == HADULMIR_COMPLETED || (HADULMIR_PARTLY_OPTED_OUT <= row.code && row.code <= HADULMIR_NOT_PARTICIPATED);
+}
+
+/* Puts the ends of one second into the order of their codes. */
+static void sort_ends(uint8_t *rows, int32_t count)
+{
+    uint8_t row[HADULMIR_ROW_SIZE];
+    int32_t i, j;
+
+    for (i = 1; i < count; i++)
+        for (j = i; j > 0; j--) {
+            struct hadulmir_row before = hadulmir_row_at(rows, (size_t)j - 1), after = hadulmir_row_at(rows, (size_t)j);
+            uint8_t *at = rows + (size_t)j * HADULMIR_ROW_SIZE;
+
+            if (!is_end(before) || !is_end(after) || before.time != after.time || before.code <= after.code)
+                break;
+            memcpy(row, at, HADULMIR_ROW_SIZE);
+            memmove(at, at - HADULMIR_ROW_SIZE, HADULMIR_ROW_SIZE);
+            memcpy(at - HADULMIR_ROW_SIZE, row, HADULMIR_ROW_SIZE);
+        }
+}
+
+/* 11: one byte is written behind the last row. 12: one byte is written behind the buffer. 13: the last row is dropped. 14: a refused call has
+   written a row. 15: a buffer that fits is too short. 16: the ends of one second go by code. 17: after seconds in and out an end gives 8,
+   whatever the choice is then. */
+int32_t __wrap_hadulmir_set_clock(uint8_t *image, uint64_t image_len, uint64_t reading, uint8_t *rows, uint64_t rows_len)
+{
+    int32_t returned, i;
+
+    if (FAULT == 15 && rows_len == HADULMIR_ROWS_SIZE && reading == 6000)
+        rows_len--;
+    returned = __real_hadulmir_set_clock(image, image_len, reading, rows, rows_len);
+    if (FAULT == 11 && returned >= 0 && rows_len > (uint64_t)returned * HADULMIR_ROW_SIZE)
+        rows[(size_t)returned * HADULMIR_ROW_SIZE] ^= 1;
+    if (FAULT == 12 && returned > 0)
+        rows[rows_len] ^= 1;
+    if (FAULT == 14 && returned == HADULMIR_TOO_SHORT && rows_len > 0)
+        rows[0] ^= 1;
+    if (FAULT == 16)
+        sort_ends(rows, returned);
+    for (i = 0; FAULT == 17 && i < returned; i++)
+        if (hadulmir_row_at(rows, (size_t)i).code == HADULMIR_PARTLY_OPTED_IN)
+            rows[(size_t)(i + 1) * HADULMIR_ROW_SIZE - 1] = HADULMIR_PARTLY_OPTED_OUT;
+    return FAULT == 13 && returned == 2 ? 1 : returned;
+}
+
+/* 18: an id is written beside a default. 19: a held control is answered by its event, whatever the choice. */
 int32_t __wrap_hadulmir_ask(const uint8_t *image, uint64_t image_len, uint8_t control, uint8_t *id, uint64_t id_len)
 {
     int32_t returned = __real_hadulmir_ask(image, image_len, control, id, id_len);
+    size_t i;
 
-    if (FAULT == 12 && returned >= HADULMIR_DEFAULT && id_len >= HADULMIR_ID_SIZE)
+    if (FAULT == 18 && returned >= HADULMIR_DEFAULT && id_len >= HADULMIR_ID_SIZE)
         id[7] = 0;
+    for (i = 0; FAULT == 19 && !hadulmir_is_refusal(returned) && id_len >= HADULMIR_ID_SIZE && i < hadulmir_count_of(image); i++)
+        if ((hadulmir_entry_of(image, i).held >> control & 1) != 0) {
+            memcpy(id, image + HADULMIR_EVENTS_AT + i * HADULMIR_ENTRY_SIZE, HADULMIR_ID_SIZE);
+            return HADULMIR_EVENT;
+        }
     return returned;
 }
 
@@ -95,23 +167,26 @@ static void put_earliest(uint8_t *record, uint64_t time)
     }
 }
 
-/* 13: a byte of the image is changed. 14: the earliest start is the effective start. 15: it is start + randomizeStart, lesser or not. 16: a
-   buffer that is long enough for the entries alone is accepted. 17: a byte behind the image is read, which valgrind alone sees. */
+/* 20: a byte of the image is changed. 21: the earliest start is the effective start. 22: it is start + randomizeStart, lesser or not. 23: a
+   buffer that is long enough for the entries alone is accepted. 24: the choice is not listed. 25: a byte behind the image is read, which
+   valgrind alone sees. */
 int32_t __wrap_hadulmir_list(const uint8_t *image, uint64_t image_len, uint8_t *records, uint64_t records_len)
 {
     int32_t returned = __real_hadulmir_list(image, image_len, records, records_len), i;
 
-    if (FAULT == 13 && returned == 48)
+    if (FAULT == 20 && returned == 48)
         ((uint8_t *)image)[0] ^= 1;
-    for (i = 0; (FAULT == 14 || FAULT == 15) && i < returned; i++) {
+    for (i = 0; (FAULT == 21 || FAULT == 22) && i < returned; i++) {
         struct hadulmir_entry e = hadulmir_record_at(records, (size_t)i).entry;
         int64_t moved = (int64_t)e.event.start + e.event.randomize_start;
 
-        put_earliest(records + (size_t)i * HADULMIR_RECORD_SIZE, FAULT == 14 ? e.effective_start : (uint64_t)moved);
+        put_earliest(records + (size_t)i * HADULMIR_RECORD_SIZE, FAULT == 21 ? e.effective_start : (uint64_t)moved);
     }
-    if (FAULT == 16 && returned == HADULMIR_TOO_SHORT && records_len >= (uint64_t)HADULMIR_ENTRY_SIZE * hadulmir_count_of(image))
+    if (FAULT == 23 && returned == HADULMIR_TOO_SHORT && records_len >= (uint64_t)HADULMIR_ENTRY_SIZE * hadulmir_count_of(image))
         return hadulmir_count_of(image);
-    if (FAULT == 17 && returned >= 0 && image[image_len] == 0x77 && image[image_len + 1] == 0x78)
+    for (i = 0; FAULT == 24 && i < returned; i++)
+        records[(size_t)i * HADULMIR_RECORD_SIZE + HADULMIR_ENTRY_SIZE - 1] = 0;
+    if (FAULT == 25 && returned >= 0 && image[image_len] == 0x77 && image[image_len + 1] == 0x78)
         return returned + 1;
     return returned;
 }

@@ -20,9 +20,9 @@ static void check(bool ok, int line)
 
 #define CHECK(ok) check((ok), __LINE__)
 
-static_assert(HADULMIR_IMAGE_SIZE == 2265 && HADULMIR_ROW_SIZE == 17 && HADULMIR_ROWS_AT_MOST == 96, "sizes");
-static_assert(HADULMIR_ROWS_SIZE == 1632 && HADULMIR_ENTRY_SIZE == 46 && HADULMIR_RECORD_SIZE == 54 && HADULMIR_EVENTS_AT_MOST == 48, "sizes");
-static_assert(HADULMIR_RECORDS_SIZE == 2592 && HADULMIR_ID_SIZE == 8 && HADULMIR_PROGRAMS_AT_MOST == 8 && HADULMIR_CONTROLS_AT_MOST == 32, "sizes");
+static_assert(HADULMIR_IMAGE_SIZE == 2313 && HADULMIR_ROW_SIZE == 17 && HADULMIR_ROWS_AT_MOST == 96, "sizes");
+static_assert(HADULMIR_ROWS_SIZE == 1632 && HADULMIR_ENTRY_SIZE == 47 && HADULMIR_RECORD_SIZE == 55 && HADULMIR_EVENTS_AT_MOST == 48, "sizes");
+static_assert(HADULMIR_RECORDS_SIZE == 2640 && HADULMIR_ID_SIZE == 8 && HADULMIR_PROGRAMS_AT_MOST == 8 && HADULMIR_CONTROLS_AT_MOST == 32, "sizes");
 static_assert(HADULMIR_CLOCK_AT_MOST == 9000000000u && HADULMIR_STACK_SIZE > 0, "limits");
 static_assert(HADULMIR_VERSION >= 10000 && sizeof HADULMIR_VERSION_TEXT > 5 && HADULMIR_IMAGE_LAYOUT > 0, "version");
 static_assert(HADULMIR_COUNT_AT == HADULMIR_CLOCK_AT + 8 && HADULMIR_PROGRAMS_AT == HADULMIR_COUNT_AT + 1, "image layout");
@@ -31,6 +31,8 @@ static_assert(HADULMIR_IMAGE_SIZE == HADULMIR_EVENTS_AT + HADULMIR_EVENTS_AT_MOS
 
 // A length is a 64-bit number wherever the header is compiled, and what is only read is lent as such.
 static_assert(std::is_same<decltype(&hadulmir_fresh), int32_t (*)(uint8_t *, uint64_t)>::value, "lengths");
+static_assert(std::is_same<decltype(&hadulmir_opt_out), int32_t (*)(uint8_t *, uint64_t, uint64_t)>::value, "opt out");
+static_assert(std::is_same<decltype(&hadulmir_opt_in), decltype(&hadulmir_opt_out)>::value, "opt in");
 static_assert(std::is_same<decltype(&hadulmir_ask), int32_t (*)(const uint8_t *, uint64_t, uint8_t, uint8_t *, uint64_t)>::value, "ask");
 static_assert(std::is_same<decltype(&hadulmir_list), int32_t (*)(const uint8_t *, uint64_t, uint8_t *, uint64_t)>::value, "list");
 
@@ -87,6 +89,7 @@ int main()
     CHECK(event.duration == 600 && event.randomize_start == -400 && event.randomize_duration == 0);
     CHECK(event.start_draw == -300 && event.duration_draw == 0 && hadulmir_signed_at(records + 29) == -300);
     CHECK(entry.effective_start == 4700 && entry.held == 1 && entry.cancelled == 0);
+    CHECK(entry.out == 0 && entry.was_in == 1 && entry.was_out == 0);
     CHECK(record.earliest_start == 4600 && hadulmir_earliest_start_at(records, 0) == 4600);
     CHECK(hadulmir_effective_end(&event) == 5300);
     CHECK(hadulmir_deliver_event(image, sizeof image, &event) == 0);
@@ -95,12 +98,20 @@ int main()
     hadulmir_program program = hadulmir_program_of(image, 0);
     CHECK(program.added == 1 && program.primacy == 1 && program.defaults == 0x2);
 
+    CHECK(hadulmir_opt_out(image, sizeof image, 7) == HADULMIR_OPTED_OUT && hadulmir_response_for(HADULMIR_OPTED_OUT) == 0);
+    CHECK(hadulmir_ask(image, sizeof image, 0, id, sizeof id) == HADULMIR_NOBODY);
+    entry = hadulmir_entry_of(image, 0);
+    CHECK(entry.out == 1 && entry.was_in == 1 && entry.was_out == 0 && entry.held == 1);
+    CHECK(hadulmir_opt_in(image, sizeof image, 7) == HADULMIR_OPTED_IN);
+    CHECK(hadulmir_opt_out(image, sizeof image, 8) == HADULMIR_NOT_HELD && hadulmir_opt_in(image, sizeof image, 8) == HADULMIR_NOT_HELD);
+    CHECK(hadulmir_entry_of(image, 0).out == 0);
     returned = hadulmir_cancel(image, sizeof image, 7);
     CHECK(returned == HADULMIR_CANCELLED && hadulmir_response_for(returned) == 0);
     CHECK(hadulmir_cancel(image, sizeof image, 8) == HADULMIR_NOT_HELD && hadulmir_is_refusal(HADULMIR_NOT_HELD));
     CHECK(hadulmir_response_for(HADULMIR_EVENT_INVALID) == HADULMIR_REJECTED_INVALID);
     CHECK(hadulmir_response_for(HADULMIR_EVENT_EXPIRED) == HADULMIR_REJECTED_EXPIRED);
     CHECK(HADULMIR_COMPLETED == 3 && HADULMIR_SUPERSEDED == 7);
+    CHECK(HADULMIR_PARTLY_OPTED_OUT == 8 && HADULMIR_PARTLY_OPTED_IN == 9 && HADULMIR_NOT_PARTICIPATED == 10);
     std::memset(image, 0xFF, sizeof image);
     CHECK(hadulmir_list(image, sizeof image, records, sizeof records) == HADULMIR_BAD_IMAGE);
 

@@ -47,6 +47,16 @@ static void cancel(void)
     returned = hadulmir_cancel(image, IMAGE, 1000);
 }
 
+static void opt_out(void)
+{
+    returned = hadulmir_opt_out(image, IMAGE, 1000);
+}
+
+static void opt_in(void)
+{
+    returned = hadulmir_opt_in(image, IMAGE, 1001);
+}
+
 static void set_clock(void)
 {
     returned = hadulmir_set_clock(image, IMAGE, 100000, rows, sizeof rows);
@@ -109,15 +119,21 @@ static size_t touched_by(void (*call)(void), uint8_t pattern)
     return STACK - i;
 }
 
-/* Images from empty to full: `events` events one behind the other, on one control or on many, some of them begun, randomised either way. */
+/*
+ * Images from empty to full: `events` events one behind the other, on one control or on many, some of them begun, randomised either way. The
+ * user is in for the first, out of the second, and so on.
+ */
 static void make_image(uint32_t events, uint32_t controls, uint64_t clock)
 {
     uint32_t i;
 
     hadulmir_fresh(image, IMAGE);
     hadulmir_add_program(image, IMAGE, 0, 1, 1);
-    for (i = 0; i < events; i++)
+    for (i = 0; i < events; i++) {
         hadulmir_deliver(image, IMAGE, 1000 + i, 0, controls, i, 5000 + 10 * i, 900, hadulmir_signed(i % 2 == 0 ? -60 : 60), 0, 0, 0);
+        if (i % 2 != 0)
+            hadulmir_opt_out(image, IMAGE, 1000 + i);
+    }
     hadulmir_set_clock(image, IMAGE, clock, rows, sizeof rows);
 }
 
@@ -147,7 +163,8 @@ int main(void)
         const char *name;
         void (*call)(void);
     } functions[] = {{"hadulmir_fresh", fresh}, {"hadulmir_add_program", add_program}, {"hadulmir_deliver", deliver},
-                     {"hadulmir_cancel", cancel}, {"hadulmir_set_clock", set_clock}, {"hadulmir_ask", ask}, {"hadulmir_list", list}};
+                     {"hadulmir_cancel", cancel}, {"hadulmir_opt_out", opt_out}, {"hadulmir_opt_in", opt_in},
+                     {"hadulmir_set_clock", set_clock}, {"hadulmir_ask", ask}, {"hadulmir_list", list}};
     size_t base = most(empty), worst = 0, i;
 
     for (i = 0; i < sizeof functions / sizeof functions[0]; i++) {

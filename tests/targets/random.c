@@ -1,8 +1,8 @@
 /*
  * Random calls through the C face, the same on every machine. After each call the returned number and every byte of the image and of the lent
  * buffer, with guard bytes on both sides, go into one digest; two machines on which the part does the same print the same digest. The calls
- * are mostly near what is accepted, so that events start, overlap, supersede each other, end and are cancelled. The counts at the end say what
- * came; it ends with 1 if an answer or a refusal never came.
+ * are mostly near what is accepted, so that events start, overlap, supersede each other, end, are cancelled, are opted out of and in to. The
+ * counts at the end say what came; it ends with 1 if an answer or a refusal never came.
  */
 #include <stdint.h>
 #include <stdio.h>
@@ -68,7 +68,7 @@ static void move_image(void)
 
 /* CALLS, all made through `make`, which spoils now and then what the call is given, and counts. */
 
-enum kind { FRESH, ADD, DELIVER, CANCEL, CLOCK, ASK, LIST, KINDS };
+enum kind { FRESH, ADD, DELIVER, CANCEL, OPT_OUT, OPT_IN, CLOCK, ASK, LIST, KINDS };
 
 struct event {
     uint64_t id;
@@ -87,7 +87,8 @@ struct call {
     uint64_t room;
 };
 
-static uint32_t calls, answered[KINDS], refused[15], rows_of[8], cancelled, held_by_event, by_default, by_nobody, unchanged, earlier, later;
+static uint32_t calls, answered[KINDS], refused[15], rows_of[HADULMIR_NOT_PARTICIPATED + 1], changed[KINDS], unchanged[KINDS];
+static uint32_t held_by_event, by_default, by_nobody, kept_back, earlier, later;
 
 static int32_t act(const struct call *c, uint64_t len, uint8_t *lent)
 {
@@ -104,6 +105,10 @@ static int32_t act(const struct call *c, uint64_t len, uint8_t *lent)
                                 hadulmir_signed(e->start_draw), hadulmir_signed(e->duration_draw));
     case CANCEL:
         return hadulmir_cancel(image, len, c->number);
+    case OPT_OUT:
+        return hadulmir_opt_out(image, len, c->number);
+    case OPT_IN:
+        return hadulmir_opt_in(image, len, c->number);
     case CLOCK:
         return hadulmir_set_clock(image, len, c->number, lent, c->room);
     case ASK:
@@ -111,6 +116,17 @@ static int32_t act(const struct call *c, uint64_t len, uint8_t *lent)
     default:
         return hadulmir_list(image, len, lent, c->room);
     }
+}
+
+/* Whether the user is out of an event that holds the control. */
+static int is_kept_back(uint64_t control)
+{
+    size_t i;
+
+    for (i = 0; i < hadulmir_count_of(image); i++)
+        if ((hadulmir_entry_of(image, i).held >> control & 1) != 0)
+            return hadulmir_entry_of(image, i).out;
+    return 0;
 }
 
 static void count(const struct call *c, int32_t returned, const uint8_t *lent)
@@ -124,15 +140,17 @@ static void count(const struct call *c, int32_t returned, const uint8_t *lent)
         return;
     }
     answered[c->kind]++;
-    cancelled += c->kind == CANCEL && returned == HADULMIR_CANCELLED;
-    unchanged += (c->kind == DELIVER || c->kind == CANCEL) && returned == 0;
+    changed[c->kind] += returned != 0;
+    unchanged[c->kind] += returned == 0;
     if (c->kind == ASK) {
         by_nobody += returned == HADULMIR_NOBODY;
         held_by_event += returned == HADULMIR_EVENT;
         by_default += returned >= HADULMIR_DEFAULT;
+        kept_back += (uint32_t)is_kept_back(c->number);
     }
     for (i = 0; c->kind == CLOCK && i < returned; i++)
-        rows_of[hadulmir_row_at(lent, (size_t)i).code & 7]++;
+        if (hadulmir_row_at(lent, (size_t)i).code <= HADULMIR_NOT_PARTICIPATED)
+            rows_of[hadulmir_row_at(lent, (size_t)i).code]++;
     for (i = 0; c->kind == LIST && i < returned; i++) {
         struct hadulmir_record record = hadulmir_record_at(lent, (size_t)i);
 
@@ -303,9 +321,10 @@ static void pass_time(void)
     set_clock(reading, once_in(5) ? rooms[below(8)] : HADULMIR_ROWS_SIZE);
 }
 
-static void cancel(void)
+/* A call that names an event, mostly a held one. */
+static void name_event(enum kind kind)
 {
-    struct call c = blank(CANCEL);
+    struct call c = blank(kind);
 
     c.number = held() > 0 && below(5) != 0 ? hadulmir_entry_of(image, below(held())).event.id : id_of(below(IDS));
     make(&c);
@@ -378,15 +397,19 @@ static void one_call(void)
 {
     uint32_t which = below(100);
 
-    if (which < 45)
+    if (which < 40)
         deliver();
-    else if (which < 65)
+    else if (which < 60)
         pass_time();
-    else if (which < 75)
-        cancel();
-    else if (which < 88)
+    else if (which < 66)
+        name_event(CANCEL);
+    else if (which < 72)
+        name_event(OPT_OUT);
+    else if (which < 78)
+        name_event(OPT_IN);
+    else if (which < 90)
         ask();
-    else if (which < 95)
+    else if (which < 96)
         list();
     else
         add_program((uint8_t)below(5));
@@ -404,7 +427,9 @@ static void say(const char *what, uint32_t times_seen)
 
 int main(void)
 {
-    static const char *const names[KINDS] = {"fresh", "add_program", "deliver", "cancel", "set_clock", "ask", "list"};
+    static const char *const names[KINDS] = {"fresh", "add_program", "deliver", "cancel", "opt_out", "opt_in", "set_clock", "ask", "list"};
+    static const uint8_t codes[] = {HADULMIR_STARTED, HADULMIR_COMPLETED, HADULMIR_SUPERSEDED, HADULMIR_PARTLY_OPTED_OUT,
+                                    HADULMIR_PARTLY_OPTED_IN, HADULMIR_NOT_PARTICIPATED};
     char what[40];
     uint32_t i;
 
@@ -423,14 +448,20 @@ int main(void)
         snprintf(what, sizeof what, "refusal %lu", (unsigned long)i);
         say(what, refused[i]);
     }
-    say("rows with 2", rows_of[HADULMIR_STARTED]);
-    say("rows with 3", rows_of[HADULMIR_COMPLETED]);
-    say("rows with 7", rows_of[HADULMIR_SUPERSEDED]);
-    say("cancelled with 6", cancelled);
-    say("known already, 0", unchanged);
+    for (i = 0; i < sizeof codes / sizeof codes[0]; i++) {
+        snprintf(what, sizeof what, "rows with %u", (unsigned)codes[i]);
+        say(what, rows_of[codes[i]]);
+    }
+    for (i = DELIVER; i <= OPT_IN; i++) {
+        snprintf(what, sizeof what, "%s with a code", names[i]);
+        say(what, changed[i]);
+        snprintf(what, sizeof what, "%s without change, 0", names[i]);
+        say(what, unchanged[i]);
+    }
     say("held by an event", held_by_event);
     say("by a default", by_default);
     say("by nobody", by_nobody);
+    say("held by an event that the user is out of", kept_back);
     say("listed, may begin before its start", earlier);
     say("listed, may begin after its start", later);
     if (none)

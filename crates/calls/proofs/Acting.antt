@@ -3,27 +3,28 @@ use mathlib.Core.Path.{_≡_, sym, ap, _∙_}
 use mathlib.Core.Bool.{true, false, Bool, cond}
 use Prim.Native.Nat.{ℕ, _<_, _≤_}
 use lib.Dec.{eqb}
-use mathlib.Core.List.{List, []}
+use mathlib.Core.List.{List, [], map}
 use mathlib.Core.Option.{none, some}
 use native.Mathlib.Omega.{arith}
 use borrow.Author.Tests.{eq-eqb}
-use lib.ListN.{getD}
+use lib.ListN.{getD, set, length-set}
 use Rattle.rules.specs.declared.Schedule.{Schedule}
 use Rattle.rules.specs.Records.{view, mostEvents, idOf, noEntry}
 use Rattle.rules.specs.Sound.{sound}
 use Rattle.rules.specs.Refusals.{firstOf, find}
-use Rattle.rules.specs.Calls.{Call, nothing, checks, refusal, lentBytes, lentList, call, deliver, entry, entryId, does, accepted}
+use Rattle.rules.specs.Calls.{Call, nothing, code, withEntries, checks, refusal, lentBytes, lentList, call, deliver, entry, entryId, does, accepted}
+use Rattle.rules.specs.declared.Entry.{Entry}
 use Rattle.rules.specs.declared.Event.{Event}
-use Rattle.rules.specs.declared.Answer.the-variants.{Refused}
+use Rattle.rules.specs.declared.Answer.the-variants.{Refused, Code}
 use Rattle.rules.proofs.ListLaws.{insert-length}
 use Rattle.rules.proofs.SoundKept.{call-pad, sound-does}
 use Rattle.calls.specs.declared.held.Head.{Head}
 use Rattle.calls.specs.declared.events.Place.{Place}
-use Rattle.calls.specs.Slots.{slotState, scheduleOf, Ready}
+use Rattle.calls.specs.Slots.{entryOf, slotState, scheduleOf, Ready}
 use Rattle.calls.specs.Answered.{Acts}
 use Rattle.calls.specs.Found.{Found}
-use Rattle.calls.proofs.Placing.{find-at}
-use Rattle.calls.proofs.Slots.{count-of, view-of, sound-of}
+use Rattle.calls.proofs.Placing.{find-at, OfOne, put-over}
+use Rattle.calls.proofs.Slots.{slot-at, within, count-of, view-of, sound-of}
 
 module _ (s : Schedule) (e : sound s ≡ true) where
   pub given : (c : Call) (n : ℕ) → eqb n 0 ≡ false → n ≡ firstOf (checks (view s) c)
@@ -66,3 +67,19 @@ module _ {d : Head} {w : List (List ℕ)} (r : Ready d w) where
 
   pub inside : {i : ℕ} {p : Place} → Found (slotState d w .entries) i p → p .held ≡ true → (p .at < d .count) × (d .count ≤ mostEvents)
   inside f h = (omega (arith, f .held h .0, count-of r), r .used .few)
+
+  -- the event held under an id is changed in its slot, and the answer is a code
+  pub changes : {change : ℕ → Entry → Entry} {done : Entry → Entry} → OfOne change done → {i : ℕ} {p : Place} → Found (slotState d w .entries) i p → p .held ≡ true
+      → {h : Entry} → h ≡ entryOf (getD w (p .at) []) → (x : List ℕ) → entryOf x ≡ done h → (c : Call) (k : ℕ) → firstOf (checks (slotState d w) c) ≡ 0
+      → does (slotState d w) c ≡ record { state = withEntries (slotState d w) (map (change i) (slotState d w .entries)); value = code k; bytes = []; records = [] }
+      → Acts (record { answer = Code k; head = d }) (set w (p .at) x) [] (call (scheduleOf d w) c)
+  changes {change} {done} o {i} {p} f b is x e c k z q =
+      let l = inside f b .0 in
+      let same = slot-at w (d .count) (within r) (p .at) l ∙ sym is in
+      let over = put-over w (d .count) o (within r) (p .at) x l (sound-of r .ids) (e ∙ ap done (sym same)) in
+      record {
+        used = record { few = r .used .few; size = length-set w (p .at) x ∙ r .used .size };
+        outcome = ap (λ es. accepted (record { state = withEntries (slotState d w) es; value = code k; bytes = []; records = [] }))
+            (over ∙ ap (λ j. map (change j) (slotState d w .entries)) (f .held b .1))
+            ∙ ap accepted (sym q) ∙ sym (does-it c z);
+      }

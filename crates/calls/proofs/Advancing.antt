@@ -1,7 +1,7 @@
 -- The loop over moments. Nothing is dropped on the way: what has ended claims nothing and gives no row. What was passed and what is left make up the whole, and the slots say where the events stand.
 use mathlib.Core.Path.{_≡_, refl, sym, ap, _∙_, fun-ext, subst}
 use Prim.Native.Nat.{ℕ, suc, _+_, _-_, _≤_, zero, _*_, _/_, _<_}
-use mathlib.Core.Bool.{Bool, true, false, not, _||_, or-true}
+use mathlib.Core.Bool.{Bool, true, false, not, _&&_, _||_, or-true}
 use mathlib.Core.List.{List, [], map, _∷_, _++_, map-map, append-assoc, append-nil}
 use native.Mathlib.Omega.{arith, by-contra}
 use borrow.Author.Tests.{ltb-false, lt-ltb, le-ltb, ltb-true}
@@ -14,7 +14,7 @@ use Rattle.rules.specs.declared.Entry.{Entry}
 use Rattle.rules.specs.declared.Program.{Program}
 use Rattle.rules.specs.Lists.{keep, In, All, Pairwise}
 use Rattle.rules.specs.Records.{State, cut, lastClock, has, join, idOf, noEntry, view, pad, mostRows}
-use Rattle.rules.specs.Holding.{claim, taken, heldAt, Holding, holdingAt, withHolding, endOf}
+use Rattle.rules.specs.Holding.{claim, taken, heldAt, Holding, carry, holdingAt, withHolding, remarked, endOf}
 use Rattle.rules.specs.Rows.{codeAt, rowsFrom, rowsAt, Row}
 use Rattle.rules.specs.Moments.{lasts, entriesFrom, second, advance, passed}
 use Rattle.rules.specs.Bytes.{bytes, rowsSize}
@@ -22,8 +22,8 @@ use Rattle.rules.proofs.ListLaws.{keep-in, keep-map, keep-keep, keep-cong, map-
 use Rattle.rules.proofs.Claims.{claim-ended, code-ended, taken-keep, rows-eq, gives-none, claim-early, claim-cancelled, nothing-held}
 use Rattle.rules.proofs.SoundState.{Sound}
 use Rattle.rules.proofs.SoundKept.{sound-advance}
-use Rattle.rules.proofs.Jump.{onward, advance-add, Idle, idle}
-use Rattle.rules.proofs.Tests.{both}
+use Rattle.rules.proofs.Jump.{marksIn, carried-twice, onward, advance-add, Idle, idle}
+use Rattle.rules.proofs.Tests.{both, each-true}
 use Rattle.rules.proofs.Masks.{has-join, has-none, not-has}
 use Rattle.rules.proofs.Bound.{few-rows}
 use Rattle.calls.specs.declared.held.Head.{Head}
@@ -31,18 +31,18 @@ use Rattle.calls.specs.declared.agenda.Taken.{Taken}
 use Rattle.calls.specs.declared.clock.Due.{Due}
 use Rattle.calls.specs.declared.clock.Standing.{Standing}
 use Rattle.calls.specs.Slots.{slotState, scheduleOf, InUse, Ready}
-use Rattle.calls.specs.Sets.{eventAt, maskAt, placesTo, Numbered, SetOf, Holders, MasksOnly, setWidth}
-use Rattle.calls.specs.Agenda.{nothing, Agenda, TakenTo, secondWidth}
-use Rattle.calls.specs.Moment.{Distinct, OneHolderIn, Before, Ahead, Past}
+use Rattle.calls.specs.Sets.{eventAt, maskAt, counting, placesTo, Numbered, SetOf, Holders, HoldingsOnly, Counted, setWidth}
+use Rattle.calls.specs.Agenda.{Agenda, TakenTo, secondWidth}
+use Rattle.calls.specs.Moment.{Distinct, OneHolderIn, Before, Marked, Steady, Ahead, Past}
 use Rattle.calls.specs.Written.{Written}
-use Rattle.calls.specs.Advanced.{Passes, Advances}
+use Rattle.calls.specs.Advanced.{Opened, Passes, Advances}
 use Rattle.calls.specs.Finished.{Finished}
 use Rattle.calls.proofs.Slots.{at-in, in-slots, within, view-of, sound-of}
 use Rattle.calls.proofs.Puts.{no-row, rows-then}
-use Rattle.calls.proofs.Sets.{place-below, some-holders}
-use Rattle.calls.proofs.Turns.{same-event, masks-trans}
-use Rattle.calls.proofs.Moments.{us-at, event-in, in-event, us-are}
-use Rattle.calls.proofs.Changes.{Reached, begin, later, no-start, no-end, ending, starting, reach-next}
+use Rattle.calls.proofs.Sets.{place-below}
+use Rattle.calls.proofs.Turns.{held-event, holdings-trans, counted-holdings, counted-mask, counted-holders}
+use Rattle.calls.proofs.Moments.{us-at, event-in, in-event, us-are, counting-twice, quiet-counted}
+use Rattle.calls.proofs.Changes.{Reached, begin, later, reach-quiet, no-start, no-end, ending, starting, reach-next}
 
 -- Moments over a list from which nothing is dropped.
 
@@ -59,7 +59,7 @@ module _ (ps : List Program) (c : ℕ) (us : List Entry) where
 
   held-same : holdingAt ps t remaining ≡ holdingAt ps t us
   unfolding holdingAt heldAt
-  held-same = fun-ext (λ h. ap (λ m. record { held = cut (claim t h) m })
+  held-same = fun-ext (λ h. ap (λ m. carry h (cut (claim t h) m))
       (ap (λ l. taken ps t l h) (sym (map-same (λ x. x) remaining (λ x m. refl)))
       ∙ taken-keep ps t h (λ x. x) (lasts c) us (λ x m e. claim-ended t x (omega (arith, ltb-false c (endOf x) e)))
       ∙ ap (λ l. taken ps t l h) (map-same (λ x. x) us (λ x m. refl))))
@@ -101,9 +101,24 @@ kept-later us c n i = keep-cong (lasts c) (lasts (c + n)) us (λ h m. go h m (la
     go h m true e = sym (lt-ltb (c + n) (endOf h) (i h (keep-in (lasts c) h us m e) .ends))
     go h m false e = sym (le-ltb (c + n) (endOf h) (omega (arith, ltb-false c (endOf h) e)))
 
-module _ (ps : List Program) (us : List Entry) (c n : ℕ) (v : Sound (stateIn ps us c)) (l : c + n ≤ lastClock) (i : All (Idle c n) (keep (lasts c) us)) where
+-- marks that are set stay as they are
+same-marks : (n : ℕ) (us : List Entry) → (0 < n → All (λ h. remarked h ≡ h) us) → marksIn n us ≡ us
+same-marks zero us f = refl
+same-marks (suc n) us f = map-same remarked us (f (omega arith))
+
+-- a quiet second sets the marks of choices
+pub quiet-second : (ps : List Program) (us : List Entry) (c : ℕ) → Sound (stateIn ps us c) → c + 1 ≤ lastClock → All (Idle c 1) (keep (lasts c) us)
+    → advance 1 (stateIn ps us c) ≡ record { state = stateIn ps (map remarked us) (c + 1); rows = [] }
+quiet-second ps us c v l i =
+    idle 1 (stateIn ps us c) v l i
+    ∙ ap (λ hs. record { state = record { clock = c + 1; programs = ps; entries = hs }; rows = [] }) (ap (map remarked) (kept-later us c 1 i) ∙ sym (keep-map (lasts (c + 1)) remarked us))
+
+module _ (ps : List Program) (us : List Entry) (c n : ℕ) (v : Sound (stateIn ps us c)) (l : c + n ≤ lastClock) (i : All (Idle c n) (keep (lasts c) us))
+    (m : 0 < n → All (λ h. remarked h ≡ h) (keep (lasts c) us)) where
   idle-state : advance n (stateIn ps us c) ≡ record { state = stateIn ps us (c + n); rows = [] }
-  idle-state = idle n (stateIn ps us c) v l i ∙ ap (λ hs. record { state = record { clock = c + n; programs = ps; entries = hs }; rows = [] }) (kept-later us c n i)
+  idle-state =
+      idle n (stateIn ps us c) v l i
+      ∙ ap (λ hs. record { state = record { clock = c + n; programs = ps; entries = hs }; rows = [] }) (same-marks n (keep (lasts c) us) m ∙ kept-later us c n i)
 
   -- n seconds in which nothing happens
   pub quiet-to : (to : ℕ) → to ≡ c + n → advance (to - c) (stateIn ps us c) ≡ record { state = stateIn ps us to; rows = [] }
@@ -193,8 +208,9 @@ pub record Going (d : Head) (w : List (List ℕ)) (to : ℕ) (agenda old : List 
   pub from : d .clock ≤ clock
   pub order : clock ≤ to
   pub reached : Reached agenda clock k
-  pub masks : MasksOnly w now
+  pub holdings : HoldingsOnly w now
   pub holders : Holders (d .count) now (s .holding)
+  pub counted : Marked d now (s .counted)
   pub before : (i : ℕ) → i < d .count → Before (clock + 1) (eventAt now i)
   pub apart : OneHolderIn d now
   pub over : SetOf (d .count) (λ i. endOf (eventAt now i) ≤ clock) ended
@@ -206,7 +222,7 @@ pub record Going (d : Head) (w : List (List ℕ)) (to : ℕ) (agenda old : List 
   pub written : Written old 0 rows (s .rows) done
 
 pub start : {d : Head} {w : List (List ℕ)} {to : ℕ} {agenda old : List ℕ} {holding : ℕ} → Ready d w → Agenda (d .clock) to (d .count) w agenda → d .clock ≤ to → to ≤ lastClock → length old ≡ rowsSize
-    → Holders (d .count) w holding → Going d w to agenda old w old (record { holding = holding; rows = 0 }) 0 (d .clock) 0
+    → Holders (d .count) w holding → Going d w to agenda old w old (record { holding = holding; counted = 0; rows = 0 }) 0 (d .clock) 0
 start {d} {w} {to} {agenda} {old} r g h l size holders = record {
   ready = r;
   planned = g;
@@ -215,8 +231,9 @@ start {d} {w} {to} {agenda} {old} r g h l size holders = record {
   from = omega arith;
   order = h;
   reached = begin g (r .used .few) l h (ends-later r);
-  masks = record { size = r .used .size; each = λ i. refl };
+  holdings = record { size = r .used .size; each = λ i. refl };
   holders = holders;
+  counted = λ i l e. not-has 0 i refl e;
   before = at-first r;
   apart = one-holder r;
   over = λ i. (λ e. not-has 0 i refl e, λ q. absurd (omega (arith, q .1, ends-later r i (q .0))));
@@ -234,16 +251,20 @@ module _ {d : Head} {w : List (List ℕ)} {to : ℕ} {agenda old : List ℕ} {no
   hs = slotState d now .entries
 
   few : d .count ≤ length now
-  few = omega (arith, g .ready .used .few, g .masks .size)
+  few = omega (arith, g .ready .used .few, g .holdings .size)
 
   same-end : (i : ℕ) → endOf (eventAt now i) ≡ endOf (eventAt w i)
-  same-end i = ap endOf (g .masks .each i)
+  same-end i = ap endOf (g .holdings .each i)
 
   same-begin : (i : ℕ) → eventAt now i .begins ≡ eventAt w i .begins
-  same-begin i = ap (λ h. h .begins) (g .masks .each i)
+  same-begin i = ap (λ h. h .begins) (g .holdings .each i)
 
   same-stopped : (i : ℕ) → eventAt now i .cancelled ≡ eventAt w i .cancelled
-  same-stopped i = ap (λ h. h .cancelled) (g .masks .each i)
+  same-stopped i = ap (λ h. h .cancelled) (g .holdings .each i)
+
+  -- where a quiet second sets no mark, it is so of each that lasts
+  steady-all : Steady d now → All (λ h. remarked h ≡ h) (keep (lasts clock) hs)
+  steady-all st o m = let p = in-event d now few o (in-keep (lasts clock) o hs m .0) in subst (λ h. remarked h ≡ h) (p .2) (st (p .0) (p .1))
 
   module _ (t : ℕ) (e : t ≡ getD agenda k 0 / secondWidth) where
     pub next-later : clock < t
@@ -277,14 +298,87 @@ module _ {d : Head} {w : List (List ℕ)} {to : ℕ} {agenda old : List ℕ} {no
               go o true y = inr (clear-start i l o (ltb-true clock (eventAt w i .begins) y))
               go o false y = inl (ltb-false clock (eventAt w i .begins) y)
 
+    -- A quiet second, which is counted for those that hold something.
+
+    module _ (quietly : clock + 1 < t) (passing : clock < to) {new : List (List ℕ)} (c : Counted (s .holding) now new) where
+      rests : All (Idle clock 1) (keep (lasts clock) hs)
+      rests = let one : clock + 1 - clock ≡ 1 = omega arith in rw one at (still (clock + 1) quietly (omega arith) (omega arith))
+
+      remarks : (i : ℕ) → i < d .count → eventAt new i ≡ remarked (eventAt now i)
+      remarks = quiet-counted (s .holding) now (g .holders) c
+
+      entries-quiet : slotState d new .entries ≡ map remarked hs
+      entries-quiet =
+          us-are d new (omega (arith, g .ready .used .few, c .size))
+          ∙ map-cong (eventAt new) (λ i. remarked (eventAt now i)) (placesTo (d .count)) (λ i m. remarks i (place-below (d .count) i m))
+          ∙ sym (map-map remarked (eventAt now) (placesTo (d .count)))
+          ∙ ap (map remarked) (sym (us-are d now few))
+
+      one-second : advance 1 (stateIn ps hs clock) ≡ record { state = stateIn ps (slotState d new .entries) (clock + 1); rows = [] }
+      one-second =
+          quiet-second ps hs clock (g .state) (omega (arith, g .last)) rests
+          ∙ ap (λ us. record { state = stateIn ps us (clock + 1); rows = [] }) (sym entries-quiet)
+
+      same-end-quiet : (i : ℕ) → endOf (eventAt new i) ≡ endOf (eventAt now i)
+      same-end-quiet i = ap endOf (counted-holdings c .each i)
+
+      -- nothing ends in it
+      not-in-it : (i : ℕ) → i < d .count → clock < endOf (eventAt now i) → clock + 1 < endOf (eventAt now i)
+      not-in-it i l h = rw (same-end i) (clear-end (clock + 1) quietly (omega arith) i l (rw (same-end i) at h))
+
+      pub steady-quiet : Steady d new
+      steady-quiet i l = rw (remarks i l) (carried-twice (eventAt now i) (maskAt now i))
+
+      pub tick : Going d w to agenda old new rows (record { holding = s .holding; counted = s .holding; rows = s .rows }) ended (clock + 1) k
+      unfolding advance
+      tick = record {
+        ready = g .ready;
+        planned = g .planned;
+        last = g .last;
+        size = g .size;
+        from = omega (arith, g .from);
+        order = omega arith;
+        reached = reach-quiet (g .planned) (g .ready .used .few) (g .last) (g .reached) (g .from) e quietly;
+        holdings = holdings-trans (g .holdings) (counted-holdings c);
+        holders = counted-holders (s .holding) c (g .holders);
+        counted = λ i l h. let z : eventAt new i ≡ counting (eventAt now i) = c .each i ∙ (rw h) in rw z (counting-twice (eventAt now i));
+        before = λ i l.
+            let b = g .before i l in
+            let h = eventAt now i in
+            let same : eventAt new i ≡ remarked h = remarks i l in
+            rw same (record {
+              short = b .short;
+              early = λ m. b .early (omega arith);
+              over = λ m. b .over (lt-of-not-le (λ z. omega (arith, not-in-it i l (omega arith))));
+              stopped = b .stopped;
+            });
+        apart = λ i j n l m p q. g .apart i j n l m (rw (counted-mask c i) at p) (rw (counted-mask c j) at q);
+        over = λ i. rw (same-end-quiet i) (
+          λ h. let z = g .over i .0 h in (z .0, omega (arith, z .1)),
+          λ h. g .over i .1 (h .0, by-contra (endOf (eventAt now i)) clock (λ z. omega (arith, h .1, not-in-it i (h .0) z))),
+        );
+        done = g .done;
+        state = subst (λ o. Sound (o .state)) one-second (sound-advance 1 (stateIn ps hs clock) (g .state) (omega (arith, g .last)));
+        split =
+            let rest = to - (clock + 1) in
+            let left : to - clock ≡ 1 + rest = omega arith in
+            g .split
+            ∙ ap (λ n. onward (record { state = stateIn ps hs clock; rows = g .done }) (advance n (stateIn ps hs clock))) left
+            ∙ ap (onward (record { state = stateIn ps hs clock; rows = g .done })) (advance-add 1 rest (stateIn ps hs clock) ∙ ap (λ m. onward m (advance rest (m .state))) one-second);
+        written = g .written;
+      }
+
     -- A moment up to the reading.
 
-    module _ (soon : t ≤ to) {p q : Taken} (u : TakenTo agenda k (t * secondWidth + setWidth) p) (v : TakenTo agenda (p .next) (t * secondWidth + secondWidth) q) where
+    module _ (st : clock + 1 < t → clock < to → Steady d now) (soon : t ≤ to) {p q : Taken} (u : TakenTo agenda k (t * secondWidth + setWidth) p) (v : TakenTo agenda (p .next) (t * secondWidth + secondWidth) q) where
       quiet : All (Idle clock (t - 1 - clock)) (keep (lasts clock) hs)
       quiet = still (t - 1) (omega (arith, next-later)) (omega arith) (omega (arith, next-later))
 
       whole : t ≡ suc (clock + (t - 1 - clock))
       whole = omega (arith, next-later)
+
+      marked : 0 < t - 1 - clock → All (λ h. remarked h ≡ h) (keep (lasts clock) hs)
+      marked h = steady-all (st (omega arith) (omega arith))
 
       in-time : clock + (t - 1 - clock) ≤ lastClock
       in-time = omega (arith, next-later, g .last)
@@ -296,7 +390,7 @@ module _ {d : Head} {w : List (List ℕ)} {to : ℕ} {agenda old : List ℕ} {no
       split-next =
           let rest = advance (to - t) (stateIn ps next t) in
           g .split
-          ∙ ap (onward (record { state = stateIn ps hs clock; rows = g .done })) (moment-then ps hs clock (t - 1 - clock) (g .state) in-time quiet t to whole soon)
+          ∙ ap (onward (record { state = stateIn ps hs clock; rows = g .done })) (moment-then ps hs clock (t - 1 - clock) (g .state) in-time quiet marked t to whole soon)
           ∙ ap (λ rs. record { state = rest .state; rows = rs }) (sym (append-assoc (g .done) (rowsAt ps t hs) (rest .rows)))
 
       room : s .rows + length (rowsAt ps t hs) ≤ mostRows
@@ -331,13 +425,14 @@ module _ {d : Head} {w : List (List ℕ)} {to : ℕ} {agenda old : List ℕ} {no
       pub ahead : Ahead d now t due s rows
       ahead = record {
         held = record {
-          used = record { few = g .ready .used .few; size = g .masks .size };
-          numbered = λ i l. rw (same-event (g .masks) i) (numbered (g .ready) i l);
+          used = record { few = g .ready .used .few; size = g .holdings .size };
+          numbered = λ i l. rw (held-event (g .holdings) i) (numbered (g .ready) i l);
           holders = g .holders;
         };
-        distinct = λ i j l m h. distinct (g .ready) i j l m (ap idOf (sym (same-event (g .masks) i)) ∙ h ∙ ap idOf (same-event (g .masks) j));
+        distinct = λ i j l m h. distinct (g .ready) i j l m (ap idOf (sym (held-event (g .holdings) i)) ∙ h ∙ ap idOf (held-event (g .holdings) j));
         before = before-it;
         apart = g .apart;
+        counted = g .counted;
         ending = λ i. rw (same-end i) (ending (g .planned) (g .ready .used .few) (g .last) (g .reached) (g .from) e soon u i);
         starting = λ i. rw (same-begin i, same-stopped i) (starting (g .planned) (g .ready .used .few) (g .last) (g .reached) (g .from) e soon u v i);
         size = g .written .size ∙ g .size;
@@ -347,13 +442,16 @@ module _ {d : Head} {w : List (List ℕ)} {to : ℕ} {agenda old : List ℕ} {no
       module _ {new : List (List ℕ)} {after : List ℕ} {r : Standing} (x : Past d now new t s rows after r) where
         -- the slots have the entries of the next state
         entries-next : slotState d new .entries ≡ next
-        unfolding holdingAt
         entries-next =
-            us-are d new (omega (arith, g .ready .used .few, x .masks .size))
-            ∙ map-cong (eventAt new) (λ i. withHolding (eventAt now i) (holdingAt ps t hs (eventAt now i))) (placesTo (d .count))
-            (λ i m. x .masks .each i ∙ ap (λ z. withHolding (eventAt now i) (record { held = z })) (x .settled i (place-below (d .count) i m)))
+            us-are d new (omega (arith, g .ready .used .few, x .holdings .size))
+            ∙ map-cong (eventAt new) (λ i. withHolding (eventAt now i) (holdingAt ps t hs (eventAt now i))) (placesTo (d .count)) (λ i m. x .settled i (place-below (d .count) i m))
             ∙ sym (map-map (λ h. withHolding h (holdingAt ps t hs h)) (eventAt now) (placesTo (d .count)))
             ∙ ap (map (λ h. withHolding h (holdingAt ps t hs h))) (sym (us-are d now few))
+
+        -- a second like this one would set no mark
+        pub steady-next : Steady d new
+        unfolding holdingAt
+        steady-next i l = rw (x .settled i l) (carried-twice (eventAt now i) (heldAt ps t hs (eventAt now i)))
 
         -- what has ended by now had ended, or ends
         over-next : SetOf (d .count) (λ i. endOf (eventAt w i) ≤ t) (bitOr ended (p .places))
@@ -376,16 +474,18 @@ module _ {d : Head} {w : List (List ℕ)} {to : ℕ} {agenda old : List ℕ} {no
 
         -- who claims nothing has nothing
         before-next : (i : ℕ) → i < d .count → Before (t + 1) (eventAt new i)
+        unfolding holdingAt
         before-next i l =
             let h = eventAt now i in
-            let begins : eventAt new i .begins ≡ h .begins = ap (λ o. o .begins) (x .masks .each i) in
-            let end : endOf (eventAt new i) ≡ endOf h = ap endOf (x .masks .each i) in
-            let stopped : eventAt new i .cancelled ≡ h .cancelled = ap (λ o. o .cancelled) (x .masks .each i) in
+            let begins : eventAt new i .begins ≡ h .begins = ap (λ o. o .begins) (x .holdings .each i) in
+            let end : endOf (eventAt new i) ≡ endOf h = ap endOf (x .holdings .each i) in
+            let stopped : eventAt new i .cancelled ≡ h .cancelled = ap (λ o. o .cancelled) (x .holdings .each i) in
+            let held : eventAt new i .held ≡ heldAt ps t hs h = ap (λ o. o .held) (x .settled i l) in
             record {
               short = rw (begins, end) (g .before i l .short);
-              early = λ a. x .settled i l ∙ nothing-held ps t hs h (claim-early t h (omega (arith, begins)));
-              over = λ a. x .settled i l ∙ nothing-held ps t hs h (claim-ended t h (omega (arith, end)));
-              stopped = λ a. x .settled i l ∙ nothing-held ps t hs h (claim-cancelled t h (sym stopped ∙ a));
+              early = λ a. held ∙ nothing-held ps t hs h (claim-early t h (omega (arith, begins)));
+              over = λ a. held ∙ nothing-held ps t hs h (claim-ended t h (omega (arith, end)));
+              stopped = λ a. held ∙ nothing-held ps t hs h (claim-cancelled t h (sym stopped ∙ a));
             }
 
         pub step : Going d w to agenda old new after r (bitOr ended (p .places)) t (q .next)
@@ -397,29 +497,30 @@ module _ {d : Head} {w : List (List ℕ)} {to : ℕ} {agenda old : List ℕ} {no
           from = omega (arith, next-later, g .from);
           order = soon;
           reached = reach-next (g .planned) (g .ready .used .few) (g .last) (g .reached) (g .from) e soon u v;
-          masks = masks-trans (g .masks) (x .masks);
+          holdings = holdings-trans (g .holdings) (x .holdings);
           holders = x .holders;
+          counted = x .counted;
           before = before-next;
           apart = x .apart;
-          over = λ i. rw (ap endOf (x .masks .each i), same-end i) (over-next i);
+          over = λ i. rw (ap endOf (x .holdings .each i), same-end i) (over-next i);
           done = g .done ++ rowsAt ps t hs;
-          state = subst (λ us. Sound (stateIn ps us t)) (sym entries-next) (sound-moment ps hs clock (t - 1 - clock) (g .state) in-time quiet t whole (omega (arith, g .last)));
+          state = subst (λ us. Sound (stateIn ps us t)) (sym entries-next) (sound-moment ps hs clock (t - 1 - clock) (g .state) in-time quiet marked t whole (omega (arith, g .last)));
           split = split-next ∙ ap (λ us. onward (record { state = stateIn ps us t; rows = g .done ++ rowsAt ps t hs }) (advance (to - t) (stateIn ps us t))) (sym entries-next);
           written = rows-then (g .written) (x .written);
         }
 
     -- No moment up to the reading any more.
 
-    module _ (h : to < t) where
+    module _ (st : clock + 1 < t → clock < to → Steady d now) (h : to < t) where
       there : passed (view (scheduleOf d w)) to ≡ record { state = stateIn ps hs to; rows = g .done }
       there =
           g .split
-          ∙ ap (onward (record { state = stateIn ps hs clock; rows = g .done })) (quiet-to ps hs clock (to - clock) (g .state) (omega (arith, g .order, g .last)) (still to h (omega arith) (g .order)) to (omega (arith, g .order)))
+          ∙ ap (onward (record { state = stateIn ps hs clock; rows = g .done })) (quiet-to ps hs clock (to - clock) (g .state) (omega (arith, g .order, g .last)) (still to h (omega arith) (g .order)) (λ z. steady-all (st (omega (arith, h)) (omega arith))) to (omega (arith, g .order)))
           ∙ ap (λ rs. record { state = stateIn ps hs to; rows = rs }) (append-nil (g .done))
 
       pub stop : Passes d w to rows ended (s .rows) now
       stop = record {
-        masks = g .masks;
+        holdings = g .holdings;
         over = λ i. (
           λ f. let z = g .over i .0 f in (z .0, omega (arith, z .1, g .order)),
           λ y. g .over i .1 (y .0, by-contra (endOf (eventAt now i)) clock (λ z. omega (arith, y .1, same-end i, clear-end to h (omega arith) i (y .0) (omega (arith, same-end i, z))))),
@@ -430,16 +531,39 @@ module _ {d : Head} {w : List (List ℕ)} {to : ℕ} {agenda old : List ℕ} {no
         size = g .written .size ∙ g .size;
       }
 
+-- The first second is counted if it is quiet.
+
+pub opened : {d : Head} {w : List (List ℕ)} {to : ℕ} {agenda old : List ℕ} (holding : ℕ) → Ready d w → Agenda (d .clock) to (d .count) w agenda → d .clock ≤ to → to ≤ lastClock → length old ≡ rowsSize
+    → Holders (d .count) w holding → (t : ℕ) → t ≡ getD agenda 0 0 / secondWidth → {quiet : Bool} → quiet ≡ (ltb (d .clock + 1) t && ltb (d .clock) to)
+    → {new : List (List ℕ)} {s : Standing} → Opened quiet holding w new s
+    → (clock : ℕ) × Going d w to agenda old new old s 0 clock 0 × (clock + 1 < t → clock < to → Steady d new)
+opened {d} {w} {to} {agenda} {old} holding r g h l size holders t e {quiet} f {new} {s} o = go quiet refl
+  where
+    first : Going d w to agenda old w old (record { holding = holding; counted = 0; rows = 0 }) 0 (d .clock) 0
+    first = start r g h l size holders
+
+    go : (b : Bool) → quiet ≡ b → (clock : ℕ) × Going d w to agenda old new old s 0 clock 0 × (clock + 1 < t → clock < to → Steady d new)
+    go true q =
+        let z = each-true (ltb (d .clock + 1) t) (ltb (d .clock) to) (sym f ∙ q) in
+        let later = ltb-true (d .clock + 1) t (z .0) in
+        let passing = ltb-true (d .clock) to (z .1) in
+        let c = o .counts q in (
+          d .clock + 1,
+          subst (λ s. Going d w to agenda old new old s 0 (d .clock + 1) 0) (sym (o .standing ∙ (rw q))) (tick first t e later passing c),
+          λ x y. steady-quiet first t e later passing c,
+        )
+    go false q = (
+      d .clock,
+      subst (λ s. Going d w to agenda old new old s 0 (d .clock) 0) (sym (o .standing ∙ (rw q))) (subst (λ n. Going d w to agenda old n old (record { holding = holding; counted = 0; rows = 0 }) 0 (d .clock) 0) (sym (o .stays q)) first),
+      λ x y. both true refl (rw (lt-ltb (d .clock + 1) t x, lt-ltb (d .clock) to y) at (sym f ∙ q)),
+    )
+
 -- The whole call.
 
 module _ {d : Head} {w : List (List ℕ)} {to : ℕ} (r : Ready d w) where
-  -- an agenda of nothing
-  pub none-due : {agenda rows : List ℕ} → Agenda (d .clock) to (d .count) w agenda → d .clock ≤ to → to ≤ lastClock → length rows ≡ rowsSize → getD agenda 0 0 ≡ nothing → Passes d w to rows 0 0 w
-  none-due {agenda} g h l size e = stop (start r g h l size (some-holders w (d .count) .1)) (getD agenda 0 0 / secondWidth) refl (omega (arith, e))
-
   module _ {rows : List ℕ} {ended count : ℕ} {mid : List (List ℕ)} (p : Passes d w to rows ended count mid) where
     pub in-use : InUse (d .count) mid
-    in-use = record { few = r .used .few; size = p .masks .size }
+    in-use = record { few = r .used .few; size = p .holdings .size }
 
     -- who stays lasts
     lasting : map (eventAt mid) (keep (λ i. not (has ended i)) (placesTo (d .count))) ≡ keep (lasts to) (slotState d mid .entries)

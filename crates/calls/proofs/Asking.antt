@@ -1,4 +1,4 @@
--- A question, place by place: the first event that holds the control, and the best default from the back.
+-- A question, place by place: the first event that holds the control with its user in, and the best default from the back.
 use mathlib.Core.Path.{_≡_, sym, ap, _∙_}
 use Prim.Native.Nat.{ℕ, suc, _+_, _<_, _≤_}
 use mathlib.Core.Bool.{true, false}
@@ -9,8 +9,8 @@ use lib.ListN.{length, take, drop, getD, drop-of-length-le}
 use lib.Seq.{drop-cons}
 use Rattle.rules.specs.declared.Entry.{Entry}
 use Rattle.rules.specs.declared.Program.{Program}
-use Rattle.rules.specs.Records.{has, noProgram, noEntry}
-use Rattle.rules.specs.Calls.{Value, entryId, holder, holderIn, bestOf, bestDefault}
+use Rattle.rules.specs.Records.{noProgram, noEntry}
+use Rattle.rules.specs.Calls.{Value, entryId, holder, governs, holderIn, bestOf, bestDefault}
 use Rattle.calls.specs.declared.programs.Best.{Best}
 use Rattle.calls.specs.Best.{ranked, carrying}
 use Rattle.calls.specs.Slots.{entryOf}
@@ -39,13 +39,13 @@ module _ (c n : ℕ) (w : List (List ℕ)) (v : Value) (fits : n ≤ length w) w
   here : (i : ℕ) → i < n → from i ≡ entryOf (getD w i []) ∷ from (suc i)
   here i l = drop-cons (map entryOf (take n w)) i noEntry (omega (arith, in-slots w n fits)) ∙ ap (λ h. h ∷ from (suc i)) (slot-at w n fits i l)
 
-  -- the first that holds it is the answer
-  pub held-here : (i : ℕ) → i < n → has (entryOf (getD w i []) .held) c ≡ true → holder (entryId (entryOf (getD w i []))) ≡ holderIn c (from i) v
+  -- the first that holds it, its user in, is the answer
+  pub held-here : (i : ℕ) → i < n → governs c (entryOf (getD w i [])) ≡ true → holder (entryId (entryOf (getD w i []))) ≡ holderIn c (from i) v
   unfolding holderIn
   held-here i l e = rw (here i l, e)
 
   -- one that does not is passed over
-  pub not-here : (i : ℕ) → i < n → has (entryOf (getD w i []) .held) c ≡ false → holderIn c (from i) v ≡ holderIn c (from (i + 1)) v
+  pub not-here : (i : ℕ) → i < n → governs c (entryOf (getD w i [])) ≡ false → holderIn c (from i) v ≡ holderIn c (from (i + 1)) v
   unfolding holderIn
   not-here i l e = rw (add-one i, here i l, e)
 

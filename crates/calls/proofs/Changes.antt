@@ -314,6 +314,10 @@ module _ {clock to n : ℕ} {w : List (List ℕ)} {a : List ℕ} (g : Agenda clo
     pub no-end : (i : ℕ) → i < n → c < finishOf w i → finishOf w i ≤ to → t ≤ finishOf w i
     no-end i l p q = omega (arith, not-before _ (g .all i l _ (inr (q, refl))) (omega arith))
 
+    -- a second before it passes no change
+    pub reach-quiet : c + 1 < t → Reached a (c + 1) k
+    reach-quiet h = raised r (omega arith) (omega arith)
+
     -- if it is up to the reading, then what ends in it, and then what starts
     module _ (soon : t ≤ to) where
       pub stops-ends : Stops a k (t * secondWidth + setWidth)

@@ -41,6 +41,8 @@ frame-length s (frame.Clock t) =
     let o = call s (frameCall (frame.Clock t) room) in
     omega (arith, rows-length (o .bytes) (counted (o .value)) 0, call-counted s (frameCall (frame.Clock t) room))
 frame-length s (frame.Program n p d) = omega arith
+frame-length s (frame.OptOut i) = code-length (s .clock) _ (call s (frameCall (frame.OptOut i) room) .value)
+frame-length s (frame.OptIn i) = code-length (s .clock) _ (call s (frameCall (frame.OptIn i) room) .value)
 frame-length s (frame.Ask c) = ask-length c (call s (frameCall (frame.Ask c) room) .value)
 
 -- no line's text is longer

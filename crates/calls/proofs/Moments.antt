@@ -4,15 +4,16 @@ use mathlib.Core.Logic.{_⊎_, inl, inr, ⊎-elim}
 use Prim.Native.Nat.{ℕ, _<_, _+_, _-_, _≤_}
 use native.Mathlib.Omega.{arith}
 use native.Mathlib.Nat.{lt-of-not-le}
-use mathlib.Core.Bool.{Bool, true, false, cond, not, _&&_, _||_, and-false}
+use mathlib.Core.Bool.{Bool, true, false, cond, not, _&&_, _||_, and-true, and-false, or-false}
 use lib.Dec.{eqb}
 use borrow.Author.Tests.{eqb-true, eqb-false, eq-eqb, ne-eqb, lt-leb, le-ltb}
 use mathlib.Core.List.{List, _++_, map, map-map}
 use lib.Bits.{bitAnd}
 use lib.ListN.{length, getD, length-append}
+use Rattle.rules.specs.declared.Choice.{Choice}
 use Rattle.rules.specs.declared.Entry.{Entry}
-use Rattle.rules.specs.Holding.{endOf, claim, Holding, better, rankOf, heldAt, holdingAt}
-use Rattle.rules.specs.Rows.{codeAt, Row, rowOf, rowsWith, rowsFrom, rowsAt}
+use Rattle.rules.specs.Holding.{endOf, claim, Holding, better, rankOf, heldAt, carry, holdingAt, withHolding, remarked}
+use Rattle.rules.specs.Rows.{endCode, codeAt, Row, rowOf, rowsWith, rowsFrom, rowsAt, ending, superseded, starting}
 use Rattle.rules.specs.declared.Program.{Program}
 use Rattle.rules.specs.Lists.{keep, In}
 use Rattle.rules.specs.Records.{has, cut, join, idOf, noEntry, mostEvents, mostRows}
@@ -26,16 +27,16 @@ use Rattle.rules.proofs.Holders.{taken-has, has-taken, held-if, if-held}
 use Rattle.calls.specs.declared.held.Head.{Head}
 use Rattle.calls.specs.declared.clock.Due.{Due}
 use Rattle.calls.specs.declared.clock.Standing.{Standing}
-use Rattle.calls.specs.Moment.{Before, CanStart, Started, Released, Ahead, Past}
+use Rattle.calls.specs.Moment.{Before, CanStart, Started, Released, Marked, Ahead, Past}
 use Rattle.calls.specs.Slots.{slotState}
-use Rattle.calls.specs.Sets.{eventAt, maskAt, rankIn, placesTo, Holders, MasksOnly, setRows}
+use Rattle.calls.specs.Sets.{eventAt, maskAt, masked, counting, rankIn, placesTo, Holders, MasksOnly, HoldingsOnly, Counted, kindCode, setRows}
 use Rattle.calls.specs.Settled.{Settled}
 use Rattle.calls.specs.Written.{Written}
 use Rattle.calls.proofs.Slots.{at-in, in-at, in-slots, slot-at}
 use Rattle.calls.proofs.Puts.{rows-then}
 use Rattle.calls.proofs.Sets.{place-below, by-place, keep-places}
 use Rattle.calls.proofs.Contending.{sole, settled-on}
-use Rattle.calls.proofs.Turns.{same-event, same-rank, masks-trans, settled-cong}
+use Rattle.calls.proofs.Turns.{same-event, same-rank, masks-trans, masks-holdings, holdings-trans, counted-holdings, counted-mask, counted-holders, settled-cong}
 
 -- Phases: claim and code follow from what an event does.
 
@@ -73,7 +74,7 @@ module _ (t : ℕ) (h : Entry) (b : Before t h) where
   idle-code k z o = ⊎-elim (λ d. rw (ne-eqb (h .begins) t d, z, cond-same, cond-same)) (code-cancelled t h k) o
 
   module _ (e : endOf h ≡ t) (d : h .held ≡ 0 → ⊥) where
-    pub end-code : (k : Holding) → codeAt t h k ≡ 3
+    pub end-code : (k : Holding) → codeAt t h k ≡ endCode (h .choice)
     unfolding codeAt
     end-code k = rw (running h (b .stopped) d, le-ltb (endOf h) t (omega arith), le-ltb t (h .begins) (omega (arith, b .short)), eq-eqb (endOf h) t e, ne-eqb (h .held) 0 d)
 
@@ -137,13 +138,24 @@ isHold (starts e r) = false
 
 -- the codes that a phase gives, where `on` says whether the event holds something afterwards
 pub record Gives (code : ℕ) (end start hold on : Bool) : Type 0 where
-  pub third : end ≡ eqb code 3
+  pub third : end ≡ ending code
   pub seventh : ((hold || start) && not on) ≡ eqb code 7
   pub second : (start && on) ≡ eqb code 2
 
+-- an end gives none of the others
+end-gives : (c : Choice) (on : Bool) → Gives (endCode c) true false false on
+unfolding endCode
+end-gives c on = go (c .out) (c .«was_in») (c .«was_out»)
+  where
+    go : (o n u : Bool) → Gives (cond (not u) 3 (cond (not n) 10 (cond o 8 9))) true false false on
+    go o n false = record { third = refl; seventh = refl; second = refl }
+    go o false true = record { third = refl; seventh = refl; second = refl }
+    go true true true = record { third = refl; seventh = refl; second = refl }
+    go false true true = record { third = refl; seventh = refl; second = refl }
+
 pub codes : (t : ℕ) (h : Entry) → Before t h → (k : Holding) (on : Bool) → on ≡ not (eqb (k .held) 0) → (p : Phase t h) → Gives (codeAt t h k) (isEnd p) (isStart p) (isHold p) on
 codes t h b k on e (idle z o) = rw (idle-code t h b k z o) (record { third = refl; seventh = refl; second = refl })
-codes t h b k on e (ends q d) = rw (end-code t h b q d k) (record { third = refl; seventh = refl; second = refl })
+codes t h b k on e (ends q d) = rw (end-code t h b q d k) (end-gives (h .choice) on)
 codes t h b k on e (starts q r) = rw (start-code t h b q r k, e) (go (eqb (k .held) 0))
   where
     go : (x : Bool) → Gives (cond x 7 2) false true false (not x)
@@ -214,12 +226,13 @@ module _ (d : Head) (w : List (List ℕ)) (fits : d .count ≤ length w) where
           let q = if-held ps t us k (eventAt w i) e in
           (q .0, λ o b h. not-true _ (λ z. both true refl (sym (q .1) ∙ ap not (taken-has ps t (eventAt w i) (eventAt w o) k us (event-in o b) z h))))
 
-  -- The rows of a set of places are those of a code, where the set is that of the events that give it.
-  pub rows-of : (t code set : ℕ) (now : Entry → Holding) → n ≤ mostEvents → ((i : ℕ) → has set i ≡ true → i < n)
-      → ((i : ℕ) → i < n → has set i ≡ eqb (codeAt t (eventAt w i) (now (eventAt w i))) code)
-      → setRows t code w set ≡ rowsWith t now us (λ c. eqb c code)
+  -- The rows of a set of places are those of a kind, where the set is that of the events that give a code of it.
+  pub rows-of : (t k set : ℕ) (kind : ℕ → Bool) (now : Entry → Holding) → n ≤ mostEvents → ((i : ℕ) → has set i ≡ true → i < n)
+      → ((i : ℕ) → i < n → has set i ≡ kind (codeAt t (eventAt w i) (now (eventAt w i))))
+      → ((i : ℕ) → i < n → has set i ≡ true → kindCode k (eventAt w i) ≡ codeAt t (eventAt w i) (now (eventAt w i)))
+      → setRows t k w set ≡ rowsWith t now us kind
   unfolding rowsWith
-  rows-of t code set now few inside gives =
+  rows-of t k set kind now few inside gives code =
       let gap : mostEvents - n + n ≡ mostEvents = omega arith in
       ap (map row) (ap (λ m. keep (has set) (placesTo m)) (sym gap) ∙ keep-places (has set) n (mostEvents - n) inside)
       ∙ map-cong row (λ i. rowOf t now (eventAt w i)) (keep (has set) (placesTo n)) same-row
@@ -228,21 +241,87 @@ module _ (d : Head) (w : List (List ℕ)) (fits : d .count ≤ length w) where
       ∙ ap (map (rowOf t now)) (sym (keep-map test (eventAt w) (placesTo n)) ∙ ap (keep test) (sym us-are))
     where
       test : Entry → Bool
-      test h = eqb (codeAt t h (now h)) code
+      test h = kind (codeAt t h (now h))
 
       row : ℕ → Row
-      row i = record { time = t; id = idOf (eventAt w i .event); code = code }
+      row i = record { time = t; id = idOf (eventAt w i .event); code = kindCode k (eventAt w i) }
 
       same-row : (i : ℕ) → In i (keep (has set) (placesTo n)) → row i ≡ rowOf t now (eventAt w i)
       same-row i m =
           let q = in-keep (has set) i (placesTo n) m in
-          ap (λ c. record { time = t; id = idOf (eventAt w i .event); code = c }) (sym (eqb-true _ code (sym (gives i (place-below n i (q .0))) ∙ q .1)))
+          ap (λ c. record { time = t; id = idOf (eventAt w i .event); code = c }) (code i (place-below n i (q .0)) (q .1))
+
+  -- of one code alone
+  pub rows-of-code : (t k set : ℕ) (now : Entry → Holding) → eqb k 3 ≡ false → n ≤ mostEvents → ((i : ℕ) → has set i ≡ true → i < n)
+      → ((i : ℕ) → i < n → has set i ≡ eqb (codeAt t (eventAt w i) (now (eventAt w i))) k)
+      → setRows t k w set ≡ rowsWith t now us (λ c. eqb c k)
+  rows-of-code t k set now e few inside gives =
+      rows-of t k set (λ c. eqb c k) now few inside gives (λ i l h. rw e (sym (eqb-true _ k (sym (gives i l) ∙ h))))
 
 -- The rows of a set do not look at masks.
-pub rows-same : {old new : List (List ℕ)} → MasksOnly old new → (t code set : ℕ) → setRows t code new set ≡ setRows t code old set
-rows-same {old} {new} m t code set =
-    map-cong (λ i. record { time = t; id = idOf (eventAt new i .event); code = code }) (λ i. record { time = t; id = idOf (eventAt old i .event); code = code }) (keep (has set) (placesTo mostEvents))
-    (λ i q. ap (λ e. record { time = t; id = idOf e; code = code }) (same-event m i))
+pub rows-same : {old new : List (List ℕ)} → MasksOnly old new → (t k set : ℕ) → setRows t k new set ≡ setRows t k old set
+rows-same {old} {new} m t k set =
+    map-cong (λ i. record { time = t; id = idOf (eventAt new i .event); code = kindCode k (eventAt new i) }) (λ i. record { time = t; id = idOf (eventAt old i .event); code = kindCode k (eventAt old i) })
+    (keep (has set) (placesTo mostEvents)) (λ i q. ap (λ h. record { time = t; id = idOf (h .event); code = kindCode k h }) (m .each i))
+
+-- Seconds counted.
+
+-- what a second leaves of an event that holds m in it: a held second counts, if none has been counted since the clock
+carried-by : (h : Entry) (m : ℕ) (on done : Bool) → on ≡ not (eqb m 0) → (done ≡ true → counting h ≡ h) → cond (on && not done) (counting (masked h m)) (masked h m) ≡ withHolding h (carry h m)
+carried-by h m on done e f = go on done f ∙ ap after e
+  where
+    after : Bool → Entry
+    after b = record {
+      event = h .event;
+      begins = h .begins;
+      held = m;
+      cancelled = h .cancelled;
+      choice = record {
+        out = h .choice .out;
+        «was_in» = h .choice .«was_in» || (b && not (h .choice .out));
+        «was_out» = h .choice .«was_out» || (b && h .choice .out);
+      };
+    }
+
+    go : (on done : Bool) → (done ≡ true → counting h ≡ h) → cond (on && not done) (counting (masked h m)) (masked h m) ≡ after on
+    go true true f = ap (λ x. masked x m) (sym (f refl))
+    go true false f = refl
+    go false done f = λ i. record {
+      event = h .event;
+      begins = h .begins;
+      held = m;
+      cancelled = h .cancelled;
+      choice = record { out = h .choice .out; «was_in» = sym (or-false (h .choice .«was_in»)) i; «was_out» = sym (or-false (h .choice .«was_out»)) i };
+    }
+
+-- twice is once
+pub counting-twice : (h : Entry) → counting (counting h) ≡ counting h
+counting-twice h = λ i. record {
+  event = h .event;
+  begins = h .begins;
+  held = h .held;
+  cancelled = h .cancelled;
+  choice = record { out = h .choice .out; «was_in» = twice (h .choice .«was_in») (not (h .choice .out)) i; «was_out» = twice (h .choice .«was_out») (h .choice .out) i };
+}
+  where
+    twice : (a b : Bool) → ((a || b) || b) ≡ (a || b)
+    twice true b = refl
+    twice false true = refl
+    twice false false = refl
+
+-- the holders are those whose mask is not 0
+pub on-mask : {n : ℕ} (holding : ℕ) (w : List (List ℕ)) → Holders n w holding → (i : ℕ) → i < n → has holding i ≡ not (eqb (maskAt w i) 0)
+on-mask {n} holding w h i l = go (eqb (maskAt w i) 0) refl
+  where
+    go : (x : Bool) → eqb (maskAt w i) 0 ≡ x → has holding i ≡ not x
+    go true e = not-true _ (λ y. h i .0 y .1 (eqb-true (maskAt w i) 0 e))
+    go false e = h i .1 (l, eqb-false (maskAt w i) 0 e)
+
+-- a quiet second, counted for those that hold something
+pub quiet-counted : {n : ℕ} (holding : ℕ) (old : List (List ℕ)) {new : List (List ℕ)} → Holders n old holding → Counted holding old new → (i : ℕ) → i < n → eventAt new i ≡ remarked (eventAt old i)
+quiet-counted {n} holding old {new} h c i l =
+    c .each i ∙ ap (λ b. cond b (counting (eventAt old i)) (eventAt old i)) (sym (and-true (has holding i)))
+    ∙ carried-by (eventAt old i) (maskAt old i) (has holding i) false (on-mask holding old h i l) (λ e. both true refl (sym e))
 
 -- A moment, step by step.
 
@@ -283,12 +362,20 @@ module _ {d : Head} {w : List (List ℕ)} {t : ℕ} {due : Due} {s : Standing} {
   abbrev now : Entry → Holding
   now h = holdingAt ps t (slotState d w .entries) h
 
-  ends-rows : setRows t 3 w ended ≡ rowsWith t now (slotState d w .entries) (λ c. eqb c 3)
-  ends-rows = rows-of d w fits t 3 ended now (a .held .used .few) ended-in (λ i l. ends-there i l ∙ codes t (eventAt w i) (a .before i l) (now (eventAt w i)) _ refl (the i) .third)
+  ends-rows : setRows t 3 w ended ≡ rowsWith t now (slotState d w .entries) ending
+  ends-rows = rows-of d w fits t 3 ended ending now (a .held .used .few) ended-in
+      (λ i l. ends-there i l ∙ codes t (eventAt w i) (a .before i l) (now (eventAt w i)) _ refl (the i) .third)
+      (λ i l h. go i l (the i) (sym (ends-there i l) ∙ h))
+    where
+      go : (i : ℕ) → i < d .count → (p : Phase t (eventAt w i)) → isEnd p ≡ true → endCode (eventAt w i .choice) ≡ codeAt t (eventAt w i) (now (eventAt w i))
+      go i l (ends q f) e = sym (end-code t (eventAt w i) (a .before i l) q f (now (eventAt w i)))
+      go i l (idle z o) e = both false e refl
+      go i l (starts q c) e = both false e refl
+      go i l (holds f o) e = both false e refl
 
   pub first-room : s .rows + length (setRows t 3 w ended) ≤ mostRows
   unfolding rowsAt rowsFrom
-  first-room = omega (arith, a .room, ap length ends-rows, length-append (rowsWith t now (slotState d w .entries) (λ c. eqb c 3)) (rowsWith t now (slotState d w .entries) (λ c. eqb c 7) ++ rowsWith t now (slotState d w .entries) (λ c. eqb c 2)))
+  first-room = omega (arith, a .room, ap length ends-rows, length-append (rowsWith t now (slotState d w .entries) ending) (rowsWith t now (slotState d w .entries) superseded ++ rowsWith t now (slotState d w .entries) starting))
 
   -- What has ended is let go.
 
@@ -373,17 +460,13 @@ module _ {d : Head} {w : List (List ℕ)} {t : ℕ} {due : Due} {s : Standing} {
 
       gives : (i : ℕ) → i < d .count → Gives (codeAt t (eventAt w i) (now (eventAt w i))) (isEnd (the i)) (isStart (the i)) (isHold (the i)) (has held i)
       unfolding holdingAt
-      gives i l = codes t (eventAt w i) (a .before i l) (now (eventAt w i)) (has held i) (rw (← settled i l) (go (eqb (maskAt new i) 0) refl)) (the i)
-        where
-          go : (x : Bool) → eqb (maskAt new i) 0 ≡ x → has held i ≡ not x
-          go true e = not-true _ (λ h. q .holders i .0 h .1 (eqb-true (maskAt new i) 0 e))
-          go false e = q .holders i .1 (l, eqb-false (maskAt new i) 0 e)
+      gives i l = codes t (eventAt w i) (a .before i l) (now (eventAt w i)) (has held i) (rw (← settled i l) (on-mask held new (q .holders) i l)) (the i)
 
       abbrev losing : ℕ
       losing = cut (join before (due .starting)) held
 
-      abbrev starting : ℕ
-      starting = bitAnd (due .starting) held
+      abbrev beginning : ℕ
+      beginning = bitAnd (due .starting) held
 
       losing-is : (i : ℕ) → has losing i ≡ ((has before i || has (due .starting) i) && not (has held i))
       losing-is i = has-cut (join before (due .starting)) held i ∙ ap (λ x. x && not (has held i)) (has-join before (due .starting) i)
@@ -395,45 +478,97 @@ module _ {d : Head} {w : List (List ℕ)} {t : ℕ} {due : Due} {s : Standing} {
           go true y f = can-start .held .holders i .0 y .0
           go false y f = a .starting i .0 f .0
 
-      starting-is : (i : ℕ) → has starting i ≡ (has (due .starting) i && has held i)
+      starting-is : (i : ℕ) → has beginning i ≡ (has (due .starting) i && has held i)
       starting-is = has-and (due .starting) held
 
-      pub starting-in : (i : ℕ) → has starting i ≡ true → i < d .count
+      pub starting-in : (i : ℕ) → has beginning i ≡ true → i < d .count
       starting-in i e = a .starting i .0 (each-true (has (due .starting) i) _ (sym (starting-is i) ∙ e) .0) .0
 
       few : d .count ≤ mostEvents
       few = a .held .used .few
 
-      losing-rows : setRows t 7 new losing ≡ rowsWith t now (slotState d w .entries) (λ c. eqb c 7)
+      losing-rows : setRows t 7 new losing ≡ rowsWith t now (slotState d w .entries) superseded
       losing-rows =
           rows-same all-masks t 7 losing
-          ∙ rows-of d w fits t 7 losing now few losing-in (λ i l. let m = marks i l in losing-is i ∙ (rw (m .holding, m .starting) (gives i l .seventh)))
+          ∙ rows-of-code d w fits t 7 losing now refl few losing-in (λ i l. let m = marks i l in losing-is i ∙ (rw (m .holding, m .starting) (gives i l .seventh)))
 
-      starting-rows : setRows t 2 new starting ≡ rowsWith t now (slotState d w .entries) (λ c. eqb c 2)
+      starting-rows : setRows t 2 new beginning ≡ rowsWith t now (slotState d w .entries) starting
       starting-rows =
-          rows-same all-masks t 2 starting
-          ∙ rows-of d w fits t 2 starting now few starting-in (λ i l. starting-is i ∙ (rw (marks i l .starting) (gives i l .second)))
+          rows-same all-masks t 2 beginning
+          ∙ rows-of-code d w fits t 2 beginning now refl few starting-in (λ i l. starting-is i ∙ (rw (marks i l .starting) (gives i l .second)))
 
-      all-rows : setRows t 3 w ended ++ (setRows t 7 new losing ++ setRows t 2 new starting) ≡ rowsAt ps t (slotState d w .entries)
+      all-rows : setRows t 3 w ended ++ (setRows t 7 new losing ++ setRows t 2 new beginning) ≡ rowsAt ps t (slotState d w .entries)
       unfolding rowsAt rowsFrom
       all-rows = ap₂ _++_ ends-rows (ap₂ _++_ losing-rows starting-rows)
 
       -- there is room for them
-      pub room : s .rows + length (setRows t 3 w ended) + (length (setRows t 7 new losing) + length (setRows t 2 new starting)) ≤ mostRows
+      pub room : s .rows + length (setRows t 3 w ended) + (length (setRows t 7 new losing) + length (setRows t 2 new beginning)) ≤ mostRows
       room = omega (
         arith,
         a .room,
         ap length all-rows,
-        length-append (setRows t 3 w ended) (setRows t 7 new losing ++ setRows t 2 new starting),
-        length-append (setRows t 7 new losing) (setRows t 2 new starting),
+        length-append (setRows t 3 w ended) (setRows t 7 new losing ++ setRows t 2 new beginning),
+        length-append (setRows t 7 new losing) (setRows t 2 new beginning),
       )
 
-      pub past : {r1 r2 r3 : List ℕ} {k1 k2 k3 : ℕ} → Written rows (s .rows) r1 k1 (setRows t 3 w ended) → Written r1 k1 r2 k2 (setRows t 7 new losing) → Written r2 k2 r3 k3 (setRows t 2 new starting)
-          → Past d w new t s rows r3 (record { holding = held; rows = k3 })
-      past {r3 = r3} {k3 = k3} x y z = record {
-        masks = all-masks;
-        holders = q .holders;
-        settled = settled;
-        apart = λ i j k. sole settles (a .distinct) k i j;
-        written = subst (Written rows (s .rows) r3 k3) all-rows (rows-then x (rows-then y z));
-      }
+      abbrev fresh : ℕ
+      fresh = cut held (s .counted)
+
+      fresh-is : (i : ℕ) → has fresh i ≡ (has held i && not (has (s .counted) i))
+      fresh-is i = has-cut held (s .counted) i
+
+      pub fresh-in : (i : ℕ) → has fresh i ≡ true → i < d .count
+      fresh-in i e = q .holders i .0 (each-true (has held i) _ (sym (fresh-is i) ∙ e) .0) .0
+
+      -- The second is counted.
+
+      module _ {last : List (List ℕ)} (c : Counted fresh new last) where
+        all-holdings : HoldingsOnly w last
+        all-holdings = holdings-trans (masks-holdings all-masks) (counted-holdings c)
+
+        abbrev mask : ℕ → ℕ
+        mask i = maskAt new i
+
+        carries : (i : ℕ) → i < d .count → eventAt last i ≡ withHolding (eventAt w i) (carry (eventAt w i) (mask i))
+        carries i l =
+            c .each i
+            ∙ ap (λ h. cond (has fresh i) (counting h) h) (all-masks .each i)
+            ∙ ap (λ b. cond b (counting (masked (eventAt w i) (mask i))) (masked (eventAt w i) (mask i))) (fresh-is i)
+            ∙ carried-by (eventAt w i) (mask i) (has held i) (has (s .counted) i) (on-mask held new (q .holders) i l) (a .counted i l)
+
+        all-settled : (i : ℕ) → i < d .count → eventAt last i ≡ withHolding (eventAt w i) (holdingAt ps t (slotState d w .entries) (eventAt w i))
+        unfolding holdingAt
+        all-settled i l = carries i l ∙ ap (λ m. withHolding (eventAt w i) (carry (eventAt w i) m)) (settled i l)
+
+        all-counted : Marked d last (join (s .counted) held)
+        all-counted i l e = go (has fresh i) (has held i) refl refl
+          where
+            -- counted now
+            now-counted : has fresh i ≡ true → counting (eventAt last i) ≡ eventAt last i
+            now-counted f = let z : eventAt last i ≡ counting (eventAt new i) = c .each i ∙ (rw f) in rw z (counting-twice (eventAt new i))
+
+            -- counted before
+            then-counted : has fresh i ≡ false → has (s .counted) i ≡ true → counting (eventAt last i) ≡ eventAt last i
+            then-counted f h =
+                let z : eventAt last i ≡ masked (eventAt w i) (mask i) = c .each i ∙ (rw f) ∙ all-masks .each i in
+                rw z (ap (λ x. masked x (mask i)) (a .counted i l h))
+
+            go : (x y : Bool) → has fresh i ≡ x → has held i ≡ y → counting (eventAt last i) ≡ eventAt last i
+            go true y f h = now-counted f
+            go false y f h = then-counted f (was (has (s .counted) i) y refl h (sym (fresh-is i) ∙ f) (sym (has-join (s .counted) held i) ∙ e))
+              where
+                was : (b y : Bool) → has (s .counted) i ≡ b → has held i ≡ y → (has held i && not (has (s .counted) i)) ≡ false → (has (s .counted) i || has held i) ≡ true → has (s .counted) i ≡ true
+                was true y p h u v = p
+                was false true p h u v = both true refl (rw (h, p) at u)
+                was false false p h u v = both false (rw (h, p) at v) refl
+
+        pub past : {r1 r2 r3 : List ℕ} {k1 k2 k3 : ℕ} → Written rows (s .rows) r1 k1 (setRows t 3 w ended) → Written r1 k1 r2 k2 (setRows t 7 new losing) → Written r2 k2 r3 k3 (setRows t 2 new beginning)
+            → Past d w last t s rows r3 (record { holding = held; counted = join (s .counted) held; rows = k3 })
+        past {r3 = r3} {k3 = k3} x y z = record {
+          holdings = all-holdings;
+          holders = counted-holders held c (q .holders);
+          settled = all-settled;
+          counted = all-counted;
+          apart = λ i j k l m e f. sole settles (a .distinct) k i j l m (rw (counted-mask c i) at e) (rw (counted-mask c j) at f);
+          written = subst (Written rows (s .rows) r3 k3) all-rows (rows-then x (rows-then y z));
+        }

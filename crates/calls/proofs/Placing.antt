@@ -13,7 +13,8 @@ use Rattle.rules.specs.declared.Entry.{Entry}
 use Rattle.rules.specs.Lists.{All, Pairwise, insert}
 use Rattle.rules.specs.Records.{noEntry}
 use Rattle.rules.specs.Refusals.{find}
-use Rattle.rules.specs.Calls.{entryId, mark}
+use Rattle.rules.specs.Calls.{entryId, mark, decide}
+use Rattle.calls.specs.Sets.{chosen}
 use Rattle.rules.proofs.SoundState.{ById}
 use Rattle.rules.proofs.ListLaws.{map-same}
 use Rattle.rules.proofs.Kept.{find-none}
@@ -78,23 +79,32 @@ insert-at a (x ∷ front) back p n =
     rw (le-ltb (entryId a) (entryId x) (omega (arith, p .below 0 (omega arith))))
     (ap (_∷_ x) (insert-at a front back (behind (entryId a) x (front ++ back) (length front) p) (λ h m. n h (inr m))))
 
--- an entry under another id is not marked
-unmarked : (i : ℕ) (h : Entry) → (entryId h ≡ i → ⊥) → mark i h ≡ h
-unmarked i h d = rw (ne-eqb (entryId h) i d)
+-- What is done to the event under an id.
+
+-- a change that leaves the entries under other ids alone, and what it makes of the one under the id
+pub record OfOne (change : ℕ → Entry → Entry) (done : Entry → Entry) : Type 0 where
+  pub others : (i : ℕ) (h : Entry) → (entryId h ≡ i → ⊥) → change i h ≡ h
+  pub own : (h : Entry) → change (entryId h) h ≡ done h
 
 -- an entry with its mark set and nothing held
 abbrev pub stopped : Entry → Entry
-stopped h = record { event = h .event; begins = h .begins; held = 0; cancelled = true }
+stopped h = record { event = h .event; begins = h .begins; held = 0; cancelled = true; choice = h .choice }
 
--- one entry is marked, since the ids differ
-mark-at : (hs : List Entry) (at : ℕ) → Pairwise ById hs → at < length hs
-    → map (mark (entryId (getD hs at noEntry))) hs ≡ set hs at (stopped (getD hs at noEntry))
-mark-at [] at s l = absurd (omega arith)
-mark-at (x ∷ xs) zero s l =
-    rw (eq-eqb (entryId x) (entryId x) refl, map-same (mark (entryId x)) xs (λ h m. unmarked (entryId x) h (λ e. omega (arith, s .0 h m))))
-mark-at (x ∷ xs) (suc k) s l =
-    let o = s .0 (getD xs k noEntry) (at-in noEntry xs k (omega arith)) in
-    rw (unmarked (entryId (getD xs k noEntry)) x (λ e. omega arith)) (ap (_∷_ x) (mark-at xs k (s .1) (omega arith)))
+pub marks-one : OfOne mark stopped
+marks-one = record { others = λ i h d. rw (ne-eqb (entryId h) i d); own = λ h. rw (eq-eqb (entryId h) (entryId h) refl) }
+
+pub decides-one : (out : Bool) → OfOne (λ i. decide i out) (λ h. chosen h out)
+decides-one out = record { others = λ i h d. rw (ne-eqb (entryId h) i d); own = λ h. rw (eq-eqb (entryId h) (entryId h) refl) }
+
+-- one entry is changed, since the ids differ
+change-at : {change : ℕ → Entry → Entry} {done : Entry → Entry} → OfOne change done → (hs : List Entry) (at : ℕ) → Pairwise ById hs → at < length hs
+    → map (change (entryId (getD hs at noEntry))) hs ≡ set hs at (done (getD hs at noEntry))
+change-at o [] at s l = absurd (omega arith)
+change-at {change} o (x ∷ xs) zero s l =
+    rw (o .own x, map-same (change (entryId x)) xs (λ h m. o .others (entryId x) h (λ e. omega (arith, s .0 h m))))
+change-at o (x ∷ xs) (suc k) s l =
+    let b = s .0 (getD xs k noEntry) (at-in noEntry xs k (omega arith)) in
+    rw (o .others (entryId (getD xs k noEntry)) x (λ e. omega arith)) (ap (_∷_ x) (change-at o xs k (s .1) (omega arith)))
 
 map-set : {A B : Type 0} (f : A → B) (l : List A) (i : ℕ) (a : A) → map f (set l i a) ≡ set (map f l) i (f a)
 map-set f [] i a = refl
@@ -128,8 +138,8 @@ module _ (w : List (List ℕ)) (n : ℕ) where
       rw (take-at (take at w ++ (x ∷ drop at (take n w))) (drop (n + 1) w) (n + 1) (in-front l x at short), map-append, ← take-take at n w short, e, all)
       (sym (insert-at a front back (rw size (rw all at p)) (find-none (entryId a) (front ++ back) (rw all at f))))
 
-  -- a slot with the event in it stopped is the list with that event marked
-  pub put-over : n ≤ length w → (at : ℕ) (x : List ℕ) → at < n → Pairwise ById hs → entryOf x ≡ stopped (getD hs at noEntry)
-      → map entryOf (take n (set w at x)) ≡ map (mark (entryId (getD hs at noEntry))) hs
-  put-over r at x l s e =
-      rw (take-set-lt n w at x l, map-set entryOf (take n w) at x, e) (sym (mark-at hs at s (omega (arith, in-slots w n r))))
+  -- a slot with the event in it changed is the list with that event changed
+  pub put-over : {change : ℕ → Entry → Entry} {done : Entry → Entry} → OfOne change done → n ≤ length w → (at : ℕ) (x : List ℕ) → at < n → Pairwise ById hs
+      → entryOf x ≡ done (getD hs at noEntry) → map entryOf (take n (set w at x)) ≡ map (change (entryId (getD hs at noEntry))) hs
+  put-over o r at x l s e =
+      rw (take-set-lt n w at x l, map-set entryOf (take n w) at x, e) (sym (change-at o hs at s (omega (arith, in-slots w n r))))

@@ -1,7 +1,7 @@
 -- The text of a line: what a frame's call gives, and how many rows there are in it at the most.
 use mathlib.Core.Path.{_≡_, refl, sym, ap, ap₂, _∙_}
 use Prim.Native.Nat.{ℕ, zero, suc, _+_, _*_, _<_, _≤_}
-use mathlib.Core.Bool.{true, cond, not, _&&_}
+use mathlib.Core.Bool.{Bool, true, false, cond, not, _&&_}
 use mathlib.Core.List.{List, [], _∷_, _++_}
 use mathlib.Core.Option.{Option, none, some}
 use native.Mathlib.Omega.{arith}
@@ -14,11 +14,11 @@ use Rattle.rules.specs.declared.Entry.{Entry}
 use Rattle.rules.specs.declared.Schedule.{Schedule}
 use Rattle.rules.specs.declared.Frame.{Frame}
 use Rattle.rules.specs.declared.Frame.the-variants as frame
-use Rattle.rules.specs.Records.{idOf, has, view, mostRows}
+use Rattle.rules.specs.Records.{idOf, differ, view, mostRows}
 use Rattle.rules.specs.Bytes.{read, rowSize, rowsSize}
 use Rattle.rules.specs.Sound.{sound}
 use Rattle.rules.specs.Refusals.{find}
-use Rattle.rules.specs.Calls.{Bare, program, event, cancellation, question, Value, Ranked, Call, bare, addProgram, deliver, cancel, setClock, ask, list, cancelCode, received, bestDefault, defaultFor, holderIn, answerFor, counted, numberOf, valueOf, does, refusal, accepts, Outcome, call}
+use Rattle.rules.specs.Calls.{Bare, program, event, cancellation, decision, question, Value, code, Ranked, Call, bare, addProgram, deliver, cancel, choose, setClock, ask, list, cancelCode, choiceCode, received, bestDefault, defaultFor, governs, holderIn, answerFor, counted, numberOf, valueOf, does, refusal, accepts, Outcome, call}
 use Rattle.rules.specs.declared.Line.the-variants.{Good, Bad}
 use Rattle.rules.specs.Frames.{frameCall}
 use Rattle.rules.specs.Printed.{refusedText, threeText, rowsText, frameText, room, tellFrame}
@@ -66,6 +66,8 @@ value-text clock (frame.Cancel i) is o p q = rw q
 value-text clock (frame.Clock t) is o p q = let z : _≡_ {A = ℕ} 0 1 = cc in absurd (omega arith)
 value-text clock (frame.Program n i d) is o p q = refl
 value-text clock (frame.Ask c) is o p q = rw q
+value-text clock (frame.OptOut i) is o p q = rw q
+value-text clock (frame.OptIn i) is o p q = rw q
 
 module _ {s : Schedule} {r : Acted} {w : List (List ℕ)} {rows : List ℕ} where
   pub on-bare : {f : Frame} {c : Bare} → frameCall f room ≡ bare c → length rows ≡ rowsSize → Acts r w [] (call s (frameCall f room)) → ActsOn s f r w rows
@@ -105,6 +107,15 @@ cancel-counted : (o : Option Entry) → counted (cancelCode o) ≤ mostRows
 cancel-counted none = omega arith
 cancel-counted (some h) = cases (h .cancelled) (λ e. rw e (omega arith)) (λ e. rw e (omega arith))
 
+choice-counted : (out : Bool) (o : Option Entry) → counted (choiceCode out o) ≤ mostRows
+choice-counted out none = omega arith
+choice-counted out (some h) = go (differ (h .choice .out) out) out
+  where
+    go : (d out : Bool) → counted (cond d (cond out (code 4) (code 5)) (code 0)) ≤ mostRows
+    go true true = omega arith
+    go true false = omega arith
+    go false out = omega arith
+
 default-counted : (q : Option Ranked) → counted (defaultFor q) ≤ mostRows
 default-counted none = omega arith
 default-counted (some q) = omega arith
@@ -112,7 +123,7 @@ default-counted (some q) = omega arith
 holder-counted : (c : ℕ) (hs : List Entry) (v : Value) → counted v ≤ mostRows → counted (holderIn c hs v) ≤ mostRows
 unfolding holderIn
 holder-counted c [] v h = h
-holder-counted c (x ∷ hs) v h = cases (has (x .held) c) (λ e. rw e (omega arith)) (λ e. rw e (holder-counted c hs v h))
+holder-counted c (x ∷ hs) v h = cases (governs c x) (λ e. rw e (omega arith)) (λ e. rw e (holder-counted c hs v h))
 
 -- no call counts more than there can be rows: held events are fewer
 pub call-counted : (s : Schedule) (c : Call) → counted (call s c .value) ≤ mostRows
@@ -120,6 +131,7 @@ unfolding does answerFor
 call-counted s (bare (program n p d)) = from-done s (addProgram n p d) (λ e. omega arith)
 call-counted s (bare (event v)) = from-done s (deliver v) (λ e. none-counted (find (idOf v) (view s .entries)))
 call-counted s (bare (cancellation i)) = from-done s (cancel i) (λ e. cancel-counted (find i (view s .entries)))
+call-counted s (bare (decision i out)) = from-done s (choose i out) (λ e. choice-counted out (find i (view s .entries)))
 call-counted s (bare (question c)) = from-done s (ask c) (λ e. holder-counted c (view s .entries) _ (default-counted (bestDefault c 0 (s .programs))))
 call-counted s (setClock t b) = from-done s (setClock t b) (λ e. few-rows s e t)
 call-counted s (list r) = from-done s (list r) (λ e. omega (arith, sound-view s e .room))

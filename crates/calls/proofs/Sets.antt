@@ -11,18 +11,17 @@ use lib.Dec.{ltb, eqb}
 use borrow.Author.Tests.{ltb-true, ltb-false, ne-eqb, eqb-true, eqb-false, eq-eqb}
 use mathlib.Core.Logic.{_↔_, _⊎_, inl, inr, ⊎-elim}
 use mathlib.Core.List.{List, [], _∷_, _++_, map, append-nil}
-use native.Mathlib.Numerals.{add-one}
 use lib.ListN.{length, getD, length-append, length-map, List·getD-append}
 use lib.Seq.{ext-getD, getD-at}
 use Rattle.rules.specs.Records.{has, cut, join}
 use Rattle.rules.specs.Lists.{keep, In, All}
 use Rattle.rules.proofs.Tests.{both, each-true}
-use Rattle.rules.proofs.Masks.{has-and, has-cut, has-half, odd, has-join, has-none, not-has}
+use Rattle.rules.proofs.Masks.{has-and, has-cut, has-half, odd, has-join, has-none}
 use Rattle.rules.proofs.ListLaws.{in-append, keep-no}
 use Rattle.rules.proofs.Nobody.{has-ext}
 use Rattle.calls.specs.declared.bits.Next.{Next}
 use Rattle.calls.specs.Slots.{entryOf}
-use Rattle.calls.specs.Sets.{placesTo, maskAt, SetOf, Lowest, Holders, Masked, Counted}
+use Rattle.calls.specs.Sets.{placesTo, maskAt, SetOf, Lowest, Holders, Masked, Kept}
 use Rattle.calls.proofs.Slots.{at-map}
 use Rattle.calls.proofs.Contending.{same}
 
@@ -259,15 +258,6 @@ module _ (P : ℕ → Type 0) (i set : ℕ) (s : SetOf i P set) where
     λ q. s j .1 (⊎-elim (λ z. absurd (n (rw z at (q .1)))) (λ z. z) (eq-or-lt-of-le (omega arith)), q .1),
   )
 
--- there is a set of the holders
-pub some-holders : (w : List (List ℕ)) (n : ℕ) → (set : ℕ) × Holders n w set
-some-holders w zero = (0, λ i. (λ e. not-has 0 i refl e, λ q. absurd (omega (arith, q .0))))
-some-holders w (suc n) = go (some-holders w n) (eqb (maskAt w n) 0) refl
-  where
-    go : (set : ℕ) × Holders n w set → (b : Bool) → eqb (maskAt w n) 0 ≡ b → (set : ℕ) × Holders (suc n) w set
-    go r true e = (r .0, rw (← add-one n) (set-skip (λ i. maskAt w i ≡ 0 → ⊥) n (r .0) (r .1) (λ f. f (eqb-true (maskAt w n) 0 e))))
-    go r false e = (bitOr (r .0) (2 ^ n), rw (← add-one n) (set-more (λ i. maskAt w i ≡ 0 → ⊥) n (r .0) (r .1) (eqb-false (maskAt w n) 0 e)))
-
 -- The set of holders, when one place gets another mask.
 
 module _ (holding i mask : ℕ) where
@@ -278,19 +268,19 @@ module _ (holding i mask : ℕ) where
       go true e = let q = eqb-true j i e in rw q (cut-same holding i)
       go false e = cut-other holding i j (eqb-false j i e)
 
-  pub counted-out : mask ≡ 0 → Counted i mask holding (bitXor holding (bitAnd holding (2 ^ i)))
+  pub kept-out : mask ≡ 0 → Kept i mask holding (bitXor holding (bitAnd holding (2 ^ i)))
   unfolding cut
-  counted-out e = record { each = λ j. rw (eq-eqb mask 0 e) (cut-there j) }
+  kept-out e = record { each = λ j. rw (eq-eqb mask 0 e) (cut-there j) }
 
-  pub counted-in : (mask ≡ 0 → ⊥) → Counted i mask holding (bitOr (bitXor holding (bitAnd holding (2 ^ i))) (2 ^ i))
+  pub kept-in : (mask ≡ 0 → ⊥) → Kept i mask holding (bitOr (bitXor holding (bitAnd holding (2 ^ i))) (2 ^ i))
   unfolding cut join
-  counted-in d = record { each = λ j. rw (ne-eqb mask 0 d) (has-join (cut holding (2 ^ i)) (2 ^ i) j ∙ ap (λ b. b || has (2 ^ i) j) (cut-there j) ∙ go j (eqb j i) refl) }
+  kept-in d = record { each = λ j. rw (ne-eqb mask 0 d) (has-join (cut holding (2 ^ i)) (2 ^ i) j ∙ ap (λ b. b || has (2 ^ i) j) (cut-there j) ∙ go j (eqb j i) refl) }
     where
       go : (j : ℕ) (b : Bool) → eqb j i ≡ b → (cond b false (has holding j) || has (2 ^ i) j) ≡ cond b true (has holding j)
       go j true e = let q = eqb-true j i e in rw q (has-self i)
       go j false e = rw (not-only i j (eqb-false j i e), or-false)
 
-  pub holders-kept : {n : ℕ} {old new : List (List ℕ)} {after : ℕ} → Holders n old holding → i < n → Masked i mask old new → Counted i mask holding after → Holders n new after
+  pub holders-kept : {n : ℕ} {old new : List (List ℕ)} {after : ℕ} → Holders n old holding → i < n → Masked i mask old new → Kept i mask holding after → Holders n new after
   holders-kept {n} {old} {new} {after} h l m c j = ⊎-elim (λ e. rw e here) (λ d. there d) (same j i)
     where
       is : maskAt new i ≡ mask

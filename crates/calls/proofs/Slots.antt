@@ -1,22 +1,24 @@
 -- What stands at a place of a list; what stands in the slots, and the schedule that they are; and slots in use as entries by value.
-use mathlib.Core.Path.{_≡_, refl, sym, ap, _∙_, subst}
+use mathlib.Core.Path.{_≡_, refl, sym, ap, ap₂, _∙_, subst, fun-ext}
 use mathlib.Core.Logic.{inl, inr}
 use Prim.Native.Nat.{ℕ, zero, suc, _<_, _%_, _≤_, _+_, _-_}
 use mathlib.Core.List.{List, [], _∷_, map, _++_, map-append}
 use native.Mathlib.Omega.{arith}
+use lib.Dec.{eqb}
+use borrow.Author.Tests.{eqb-true, eqb-false, eq-eqb, ne-eqb}
 use lib.ListN.{length, getD, take, set, length-map, List·getD-append, replicate}
 use lib.Seq.{getD-take, length-take-le, getD-set-same, getD-set-other, take-suc, take-suc-set, append-snoc, set-at}
-use mathlib.Core.Bool.{true}
+use mathlib.Core.Bool.{Bool, true, false, cond, not, _||_, or-true, or-false}
 use native.Mathlib.Numerals.{add-one}
 use Rattle.rules.specs.Lists.{In}
 use Rattle.rules.specs.Records.{noEntry, view, mostEvents, pad}
-use Rattle.rules.specs.Holding.{withHolding}
 use Rattle.rules.specs.declared.Entry.{Entry}
 use Rattle.rules.specs.declared.Schedule.{Schedule}
 use Rattle.rules.specs.Sound.{sound}
 use Rattle.rules.proofs.SoundState.{Sound, view-pad, sound-view, pad-view}
 use Rattle.calls.specs.declared.held.Head.{Head}
-use Rattle.calls.specs.Slots.{idPlace, programPlace, controlsPlace, createdPlace, startPlace, durationPlace, randomizeStartPlace, randomizeDurationPlace, startDrawPlace, durationDrawPlace, beginsPlace, heldPlace, cancelledPlace, slotSize, values32, entryOf, slotState, scheduleOf, Ready, InUse, TakenApart}
+use Rattle.calls.specs.Sets.{masked, counting, chosen}
+use Rattle.calls.specs.Slots.{heldPlace, outPlace, wasInPlace, wasOutPlace, slotSize, values32, entryFrom, entryOf, slotState, scheduleOf, Ready, InUse, TakenApart}
 
 -- what stands at a place is in the list
 pub at-in : {A : Type 0} (d : A) (xs : List A) (k : ℕ) → k < length xs → In (getD xs k d) xs
@@ -36,6 +38,11 @@ at-map f d e (x ∷ xs) zero l = refl
 at-map f d e (x ∷ xs) (suc k) l = at-map f d e xs k (omega arith)
 
 -- Slots.
+
+-- a mark is 1 only if it is set
+pub marked : (b : Bool) (m : ℕ) → m ≡ cond b 1 0 → eqb m 1 ≡ b
+marked true m e = rw e
+marked false m e = rw e
 
 module _ (w : List (List ℕ)) (n : ℕ) (fits : n ≤ length w) where
   pub in-slots : length (map entryOf (take n w)) ≡ n
@@ -63,27 +70,53 @@ module _ {d : Head} {w : List (List ℕ)} (r : Ready d w) where
   entry-at k l = List·getD-append (slotState d w .entries) _ noEntry k (omega (arith, count-of)) ∙ slot-at w (d .count) within k l
 
 module _ (slot : List ℕ) (l : length slot ≡ slotSize) where
-  -- a slot with another mask
-  pub mask-in : (m : ℕ) → m % values32 ≡ m → entryOf (set slot heldPlace m) ≡ withHolding (entryOf slot) (record { held = m })
+  -- a slot with another number at one place
+  with-number : (p m : ℕ) → p < slotSize → entryOf (set slot p m) ≡ entryFrom (λ j. cond (eqb j p) m (getD slot j 0))
   unfolding entryOf
-  mask-in m e =
-      let same : (j : ℕ) → (j ≡ heldPlace → ⊥) → getD (set slot heldPlace m) j 0 ≡ getD slot j 0 = λ j d. getD-set-other slot heldPlace j m 0 d in
-      rw (
-        same idPlace (λ q. omega arith),
-        same programPlace (λ q. omega arith),
-        same controlsPlace (λ q. omega arith),
-        same createdPlace (λ q. omega arith),
-        same startPlace (λ q. omega arith),
-        same durationPlace (λ q. omega arith),
-        same randomizeStartPlace (λ q. omega arith),
-        same randomizeDurationPlace (λ q. omega arith),
-        same startDrawPlace (λ q. omega arith),
-        same durationDrawPlace (λ q. omega arith),
-        same beginsPlace (λ q. omega arith),
-        same cancelledPlace (λ q. omega arith),
-        getD-set-same slot heldPlace m 0 (omega arith),
-        e,
-      )
+  with-number p m h = ap entryFrom (fun-ext (λ j. go j (eqb j p) refl))
+    where
+      go : (j : ℕ) (b : Bool) → eqb j p ≡ b → getD (set slot p m) j 0 ≡ cond b m (getD slot j 0)
+      go j true e = ap (λ k. getD (set slot p m) k 0) (eqb-true j p e) ∙ getD-set-same slot p m 0 (omega arith)
+      go j false e = getD-set-other slot p j m 0 (eqb-false j p e)
+
+  -- another mask
+  pub mask-in : (m : ℕ) → m % values32 ≡ m → entryOf (set slot heldPlace m) ≡ masked (entryOf slot) m
+  unfolding entryOf
+  mask-in m e = with-number heldPlace m (omega arith) ∙ ap (masked (entryOf slot)) e
+
+  -- another choice
+  pub choice-in : (b : Bool) (m : ℕ) → m ≡ cond b 1 0 → entryOf (set slot outPlace m) ≡ chosen (entryOf slot) b
+  unfolding entryOf
+  choice-in b m e = with-number outPlace m (omega arith) ∙ ap (chosen (entryOf slot)) (marked b m e)
+
+  -- a held second counted, while the user is out and while in
+
+  abbrev marks : Bool → Bool → Entry
+  marks n u = record {
+    event = entryOf slot .event;
+    begins = entryOf slot .begins;
+    held = entryOf slot .held;
+    cancelled = entryOf slot .cancelled;
+    choice = record { out = entryOf slot .choice .out; «was_in» = n; «was_out» = u };
+  }
+
+  pub second-out : getD slot outPlace 0 ≡ 1 → entryOf (set slot wasOutPlace 1) ≡ counting (entryOf slot)
+  unfolding entryOf
+  second-out e =
+      let o = eq-eqb (getD slot outPlace 0) 1 e in
+      let n = eqb (getD slot wasInPlace 0) 1 in
+      let u = eqb (getD slot wasOutPlace 0) 1 in
+      with-number wasOutPlace 1 (omega arith)
+      ∙ ap₂ marks (sym (ap (λ o. n || not o) o ∙ or-false n)) (sym (ap (λ o. u || o) o ∙ or-true u))
+
+  pub second-in : (getD slot outPlace 0 ≡ 1 → ⊥) → entryOf (set slot wasInPlace 1) ≡ counting (entryOf slot)
+  unfolding entryOf
+  second-in d =
+      let o = ne-eqb (getD slot outPlace 0) 1 d in
+      let n = eqb (getD slot wasInPlace 0) 1 in
+      let u = eqb (getD slot wasOutPlace 0) 1 in
+      with-number wasInPlace 1 (omega arith)
+      ∙ ap₂ marks (sym (ap (λ o. n || not o) o ∙ or-true n)) (sym (ap (λ o. u || o) o ∙ or-false u))
 
 -- Entries by value.
 

@@ -8,7 +8,8 @@ use lib.Bits.{bitAnd}
 use lib.Dec.{eqb}
 use borrow.Author.Tests.{eqb-true, eqb-false, eq-eqb, ne-eqb}
 use native.Mathlib.Omega.{arith}
-use lib.ListN.{length, length-append}
+use lib.ListN.{length, length-append, length-set, set}
+use lib.Seq.{getD-set-same, getD-set-other}
 use Rattle.rules.specs.declared.Program.{Program}
 use Rattle.rules.specs.Records.{has, cut, idOf, mostEvents, mostRows}
 use Rattle.rules.specs.Holding.{Rank, better, rankOf, withHolding}
@@ -19,7 +20,7 @@ use Rattle.rules.proofs.ListLaws.{keep-no}
 use Rattle.calls.specs.declared.held.Head.{Head}
 use Rattle.calls.specs.declared.bits.Next.{Next}
 use Rattle.calls.specs.Slots.{entryOf}
-use Rattle.calls.specs.Sets.{eventAt, maskAt, rankIn, Lowest, Holders, Masked, Counted, MasksOnly, placesTo, setRows}
+use Rattle.calls.specs.Sets.{eventAt, maskAt, rankIn, Lowest, Holders, masked, counting, Masked, Kept, MasksOnly, HoldingsOnly, holdingOf, Counted, placesTo, kindCode, setRows}
 use Rattle.calls.specs.Settled.{Comes, Contended, Settled, Contends}
 use Rattle.calls.specs.Written.{Written}
 use Rattle.calls.specs.Moment.{CanStart, Started, Released}
@@ -41,16 +42,27 @@ module _ {old now : List (List ℕ)} (m : MasksOnly old now) where
   pub masks-then : {i mask : ℕ} {new : List (List ℕ)} → Masked i mask now new → MasksOnly old new
   masks-then {i} {mask} {new} p = record { size = p .size; each = λ j. ⊎-elim (λ q. rw q here) (λ d. there j d) (same j i) }
     where
-      here : eventAt new i ≡ withHolding (eventAt old i) (record { held = maskAt new i })
-      here = p .here ∙ ap (λ h. withHolding h (record { held = mask })) (m .each i) ∙ ap (λ x. withHolding (eventAt old i) (record { held = x })) (sym (ap (λ h. h .held) (p .here)))
+      here : eventAt new i ≡ masked (eventAt old i) (maskAt new i)
+      here = p .here ∙ ap (λ h. masked h mask) (m .each i) ∙ ap (λ x. masked (eventAt old i) x) (sym (ap (λ h. h .held) (p .here)))
 
-      there : (j : ℕ) → (j ≡ i → ⊥) → eventAt new j ≡ withHolding (eventAt old j) (record { held = maskAt new j })
+      there : (j : ℕ) → (j ≡ i → ⊥) → eventAt new j ≡ masked (eventAt old j) (maskAt new j)
       there j d =
           let e = ap entryOf (p .others j d) in
-          e ∙ m .each j ∙ ap (λ x. withHolding (eventAt old j) (record { held = x })) (sym (ap (λ h. h .held) e))
+          e ∙ m .each j ∙ ap (λ x. masked (eventAt old j) x) (sym (ap (λ h. h .held) e))
 
 pub masks-trans : {old now new : List (List ℕ)} → MasksOnly old now → MasksOnly now new → MasksOnly old new
-masks-trans {new = new} p q = record { size = q .size; each = λ j. q .each j ∙ ap (λ h. withHolding h (record { held = maskAt new j })) (p .each j) }
+masks-trans {new = new} p q = record { size = q .size; each = λ j. q .each j ∙ ap (λ h. masked h (maskAt new j)) (p .each j) }
+
+-- What events carry changed, one after the other.
+
+pub held-event : {old now : List (List ℕ)} → HoldingsOnly old now → (j : ℕ) → eventAt now j .event ≡ eventAt old j .event
+held-event m j = ap (λ h. h .event) (m .each j)
+
+pub masks-holdings : {old now : List (List ℕ)} → MasksOnly old now → HoldingsOnly old now
+masks-holdings {old} {now} m = record { size = m .size; each = λ j. m .each j ∙ ap (λ h. withHolding (eventAt old j) (holdingOf h)) (sym (m .each j)) }
+
+pub holdings-trans : {old now new : List (List ℕ)} → HoldingsOnly old now → HoldingsOnly now new → HoldingsOnly old new
+holdings-trans {new = new} p q = record { size = q .size; each = λ j. q .each j ∙ ap (λ h. withHolding h (holdingOf (eventAt new j))) (p .each j) }
 
 -- what a place has in the end that a claim comes to: all that it had if it is better, else what is not claimed
 abbrev against : (ℕ → Rank) → ℕ → ℕ → (ℕ → ℕ) → ℕ → ℕ
@@ -167,13 +179,13 @@ module _ {d : Head} {i : ℕ} {old : List (List ℕ)} {holding : ℕ} {now : Lis
 
   -- it is not better, and loses what is claimed
   pub takes : {new : List (List ℕ)} {held′ : ℕ} → better (rankIn ps old at) (rankIn ps old i) ≡ false → Masked at (cut (maskAt old at) carried) now new
-      → Counted at (cut (maskAt old at) carried) held held′ → Contesting d i old holding new left held′ later
+      → Kept at (cut (maskAt old at) carried) held held′ → Contesting d i old holding new left held′ later
   takes {new} {held′} e p q = meets new left held′ (masks-then (c .masks) p) (holders-kept held at _ (c .holders) met-below p q)
       (ap (λ h. h .held) (p .here) ∙ sym (rw e)) (λ j n. ap (λ x. entryOf x .held) (p .others j n)) (λ k. (λ h. (h, λ m. e), λ z. z .0))
 
 -- All are met, and the event has what is left.
 pub contended : {d : Head} {i : ℕ} {old : List (List ℕ)} {holding : ℕ} {now : List (List ℕ)} {left held rest : ℕ} → Contesting d i old holding now left held rest → rest ≡ 0
-    → {new : List (List ℕ)} {held′ : ℕ} → Masked i left now new → Counted i left held held′ → Contended d i old new held′
+    → {new : List (List ℕ)} {held′ : ℕ} → Masked i left now new → Kept i left held held′ → Contended d i old new held′
 contended {d} {i} {old} {holding} {now} {left} {held} {rest} c e {new} {held′} p q =
     let none : (j : ℕ) → has rest j ≡ false = λ j. ap (λ m. has m j) e ∙ has-none j in
     record {
@@ -213,43 +225,43 @@ module _ (set : ℕ) {rest : ℕ} {next : Next} (low : Lowest rest next) where
 
 -- Rows.
 
-module _ (t code : ℕ) (slots : List (List ℕ)) (set : ℕ) where
+module _ (t kind : ℕ) (slots : List (List ℕ)) (set : ℕ) where
   -- the rows done and those of `rest` make up those of the set
   pub record Reporting (old : List ℕ) (from : ℕ) (rows : List ℕ) (at rest : ℕ) : Type 0 where
     pub within : (k : ℕ) → has rest k ≡ true → k < mostEvents
     pub done : List Row
     pub written : Written old from rows at done
-    pub whole : done ++ setRows t code slots rest ≡ setRows t code slots set
+    pub whole : done ++ setRows t kind slots rest ≡ setRows t kind slots set
 
   pub none-reported : (old : List ℕ) (from : ℕ) → ((k : ℕ) → has set k ≡ true → k < mostEvents) → Reporting old from old from set
   none-reported old from w = record { within = w; done = []; written = no-row old from; whole = refl }
 
   -- the row of the event at a place
   abbrev rowAt : ℕ → Row
-  rowAt i = record { time = t; id = idOf (eventAt slots i .event); code = code }
+  rowAt i = record { time = t; id = idOf (eventAt slots i .event); code = kindCode kind (eventAt slots i) }
 
   module _ {old rows : List ℕ} {from at rest : ℕ} (c : Reporting old from rows at rest) {next : Next} (low : Lowest rest next) where
     pub next-place : next .place < mostEvents
     next-place = c .within (next .place) (low .here)
 
     -- the next row, and then those of the others
-    rows-in-order : setRows t code slots rest ≡ rowAt (next .place) ∷ setRows t code slots (next .rest)
+    rows-in-order : setRows t kind slots rest ≡ rowAt (next .place) ∷ setRows t kind slots (next .rest)
     rows-in-order = ap (map rowAt) (in-order low mostEvents next-place)
 
-    pub has-room : from + length (setRows t code slots set) ≤ mostRows → at < mostRows
-    has-room l = omega (arith, c .written .count, length-append (c .done) (setRows t code slots rest), ap length (c .whole), ap length rows-in-order)
+    pub has-room : from + length (setRows t kind slots set) ≤ mostRows → at < mostRows
+    has-room l = omega (arith, c .written .count, length-append (c .done) (setRows t kind slots rest), ap length (c .whole), ap length rows-in-order)
 
     pub report-next : {more : List ℕ} → Written rows at more (at + 1) (rowAt (next .place) ∷ []) → Reporting old from more (at + 1) (next .rest)
     report-next w = record {
       within = λ k e. c .within k (still low k e);
       done = c .done ++ (rowAt (next .place) ∷ []);
       written = rows-then (c .written) w;
-      whole = append-assoc (c .done) (rowAt (next .place) ∷ []) (setRows t code slots (next .rest)) ∙ ap (λ z. c .done ++ z) (sym rows-in-order) ∙ c .whole;
+      whole = append-assoc (c .done) (rowAt (next .place) ∷ []) (setRows t kind slots (next .rest)) ∙ ap (λ z. c .done ++ z) (sym rows-in-order) ∙ c .whole;
     }
 
-  pub all-reported : {old rows : List ℕ} {from at rest : ℕ} → Reporting old from rows at rest → rest ≡ 0 → Written old from rows at (setRows t code slots set)
+  pub all-reported : {old rows : List ℕ} {from at rest : ℕ} → Reporting old from rows at rest → rest ≡ 0 → Written old from rows at (setRows t kind slots set)
   all-reported {rest = rest} c e =
-      let none : setRows t code slots rest ≡ [] = ap (map rowAt) (keep-no (has rest) (placesTo mostEvents) (λ i m. rw (e, has-none))) in
+      let none : setRows t kind slots rest ≡ [] = ap (map rowAt) (keep-no (has rest) (placesTo mostEvents) (λ i m. rw (e, has-none))) in
       rw (← c .whole, none, append-nil) (c .written)
 
 -- Controls let go.
@@ -269,7 +281,7 @@ none-released ended holding old s = record {
 }
 
 pub release-next : {ended holding now rest : ℕ} {old new slots : List (List ℕ)} {then : ℕ} → Releasing ended holding old new now rest → {next : Next} → Lowest rest next
-    → Masked (next .place) 0 new slots → Counted (next .place) 0 now then → Releasing ended holding old slots then (next .rest)
+    → Masked (next .place) 0 new slots → Kept (next .place) 0 now then → Releasing ended holding old slots then (next .rest)
 release-next {ended} {holding} {now} {rest} {old} {new} {slots} {then} c {next} low m n = record {
   within = λ k e. c .within k (still low k e);
   masks = masks-then (c .masks) m;
@@ -286,6 +298,55 @@ all-released {ended} {rest = rest} c e = record {
   released = λ i. c .released i ∙ (rw (all-turned ended rest i e));
   holders = λ i. c .holders i ∙ (rw (all-turned ended rest i e));
 }
+
+-- Seconds counted.
+
+pub record Counting (places : ℕ) (old now : List (List ℕ)) (rest : ℕ) : Type 0 where
+  pub within : (k : ℕ) → has rest k ≡ true → has places k ≡ true
+  pub size : length now ≡ mostEvents
+  pub each : (j : ℕ) → eventAt now j ≡ cond (turned places rest j) (counting (eventAt old j)) (eventAt old j)
+
+pub none-counted : (places : ℕ) (old : List (List ℕ)) → length old ≡ mostEvents → Counting places old old places
+none-counted places old s = record { within = λ k e. e; size = s; each = λ j. rw (no-turns places j) }
+
+pub count-next : {places rest : ℕ} {old now : List (List ℕ)} → Counting places old now rest → {next : Next} → Lowest rest next → next .place < mostEvents
+    → (x : List ℕ) → entryOf x ≡ counting (eventAt now (next .place)) → Counting places old (set now (next .place) x) (next .rest)
+count-next {places} {rest} {old} {now} c {next} low l x e = record {
+  within = λ k p. c .within k (still low k p);
+  size = length-set now (next .place) x ∙ c .size;
+  each = λ j. ⊎-elim (λ q. rw q here) (λ d. ap entryOf (getD-set-other now (next .place) j x [] d) ∙ c .each j ∙ sym (rw (not-its-turn places low j d))) (same j (next .place));
+}
+  where
+    here : eventAt (set now (next .place) x) (next .place) ≡ cond (turned places (next .rest) (next .place)) (counting (eventAt old (next .place))) (eventAt old (next .place))
+    here =
+        let not-yet : turned places rest (next .place) ≡ false = rw (c .within (next .place) (low .here), low .here) in
+        ap entryOf (getD-set-same now (next .place) x [] (omega (arith, c .size))) ∙ e
+        ∙ ap counting (c .each (next .place) ∙ ap (λ b. cond b (counting (eventAt old (next .place))) (eventAt old (next .place))) not-yet)
+        ∙ sym (rw (its-turn places low (c .within (next .place) (low .here))))
+
+pub all-counted : {places rest : ℕ} {old now : List (List ℕ)} → Counting places old now rest → rest ≡ 0 → Counted places old now
+all-counted {places} {rest} c e = record { size = c .size; each = λ j. c .each j ∙ (rw (all-turned places rest j e)) }
+
+-- a held second counted changes nothing else, and no mask
+pub counted-holdings : {places : ℕ} {old now : List (List ℕ)} → Counted places old now → HoldingsOnly old now
+counted-holdings {places} {old} {now} c = record { size = c .size; each = λ j. c .each j ∙ go j (has places j) ∙ ap (λ h. withHolding (eventAt old j) (holdingOf h)) (sym (c .each j)) }
+  where
+    go : (j : ℕ) (b : Bool) → cond b (counting (eventAt old j)) (eventAt old j) ≡ withHolding (eventAt old j) (holdingOf (cond b (counting (eventAt old j)) (eventAt old j)))
+    go j true = refl
+    go j false = refl
+
+pub counted-mask : {places : ℕ} {old now : List (List ℕ)} → Counted places old now → (j : ℕ) → maskAt now j ≡ maskAt old j
+counted-mask {places} {old} c j = ap (λ h. h .held) (c .each j) ∙ go (has places j)
+  where
+    go : (b : Bool) → cond b (counting (eventAt old j)) (eventAt old j) .held ≡ maskAt old j
+    go true = refl
+    go false = refl
+
+pub counted-holders : {places n : ℕ} (holding : ℕ) {old now : List (List ℕ)} → Counted places old now → Holders n old holding → Holders n now holding
+counted-holders holding c h i = (
+  λ e. let q = h i .0 e in (q .0, λ z. q .1 (sym (counted-mask c i) ∙ z)),
+  λ q. h i .1 (q .0, λ z. q .1 (counted-mask c i ∙ z)),
+)
 
 -- Events that begin.
 

@@ -1,6 +1,7 @@
 -- What the core of the clock call leaves.
 use mathlib.Core.Path.{_≡_}
 use Prim.Native.Nat.{ℕ, _*_, _≤_}
+use mathlib.Core.Bool.{Bool, true, false, cond}
 use mathlib.Core.List.{List}
 use lib.ListN.{length, take}
 use Rattle.rules.specs.declared.Schedule.{Schedule}
@@ -13,8 +14,9 @@ use Rattle.rules.specs.Calls.{numberOf, valueOf, counted, setClock, call}
 use Rattle.calls.specs.declared.Acted.{Acted}
 use Rattle.calls.specs.declared.advance.Passed.{Passed}
 use Rattle.calls.specs.declared.held.Head.{Head}
+use Rattle.calls.specs.declared.clock.Standing.{Standing}
 use Rattle.calls.specs.Slots.{slotState, scheduleOf, InUse}
-use Rattle.calls.specs.Sets.{eventAt, SetOf, MasksOnly}
+use Rattle.calls.specs.Sets.{eventAt, SetOf, HoldingsOnly, Counted}
 
 -- the schedule at the reading, how many rows there are, and their bytes at the front of the buffer
 pub record Advanced (s : Schedule) (reading : ℕ) (buffer : List ℕ) (next : Schedule) (count : ℕ) : Type 0 where
@@ -23,9 +25,15 @@ pub record Advanced (s : Schedule) (reading : ℕ) (buffer : List ℕ) (next : S
   pub written : take (rowSize * count) buffer ≡ bytes (passed (view s) reading .rows)
   pub size : length buffer ≡ rowsSize
 
+-- the second after the clock is counted for those that hold something, if it is quiet
+pub record Opened (quiet : Bool) (holding : ℕ) (old new : List (List ℕ)) (r : Standing) : Type 0 where
+  pub counts : quiet ≡ true → Counted holding old new
+  pub stays : quiet ≡ false → new ≡ old
+  pub standing : r ≡ record { holding = holding; counted = cond quiet holding 0; rows = 0 }
+
 -- the moments up to the reading, passed with nothing dropped: what the slots hold then, who has ended, how many rows there are, and their bytes at the front of the buffer
 pub record Passes (d : Head) (w : List (List ℕ)) (reading : ℕ) (buffer : List ℕ) (ended count : ℕ) (new : List (List ℕ)) : Type 0 where
-  pub masks : MasksOnly w new
+  pub holdings : HoldingsOnly w new
   pub over : SetOf (d .count) (λ i. endOf (eventAt new i) ≤ reading) ended
   pub state : passed (view (scheduleOf d w)) reading .state ≡ record { clock = reading; programs = d .programs; entries = keep (lasts reading) (slotState d new .entries) }
   pub rows : count ≡ length (passed (view (scheduleOf d w)) reading .rows)

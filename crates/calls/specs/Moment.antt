@@ -7,13 +7,13 @@ use lib.ListN.{length}
 use Rattle.rules.specs.declared.Entry.{Entry}
 use Rattle.rules.specs.Records.{idOf, has, mostRows}
 use Rattle.rules.specs.Bytes.{rowsSize}
-use Rattle.rules.specs.Holding.{heldAt, endOf}
+use Rattle.rules.specs.Holding.{holdingAt, withHolding, remarked, endOf}
 use Rattle.rules.specs.Rows.{rowsAt}
 use Rattle.calls.specs.declared.held.Head.{Head}
 use Rattle.calls.specs.declared.clock.Due.{Due}
 use Rattle.calls.specs.declared.clock.Standing.{Standing}
 use Rattle.calls.specs.Slots.{slotState}
-use Rattle.calls.specs.Sets.{eventAt, maskAt, rankIn, SetOf, Holders, MasksOnly}
+use Rattle.calls.specs.Sets.{eventAt, maskAt, counting, rankIn, SetOf, Holders, MasksOnly, HoldingsOnly}
 use Rattle.calls.specs.Settled.{Settled, Held}
 use Rattle.calls.specs.Written.{Written}
 
@@ -51,6 +51,14 @@ pub record Before (t : ℕ) (h : Entry) : Type 0 where
   pub over : endOf h < t → h .held ≡ 0
   pub stopped : h .cancelled ≡ true → h .held ≡ 0
 
+-- for the events at the places of a set a held second has been counted since the clock, so that another one counts for nothing
+abbrev pub Marked : Head → List (List ℕ) → ℕ → Type 0
+Marked d w counted = (i : ℕ) → i < d .count → has counted i ≡ true → counting (eventAt w i) ≡ eventAt w i
+
+-- a second like the last one would set no mark
+abbrev pub Steady : Head → List (List ℕ) → Type 0
+Steady d w = (i : ℕ) → i < d .count → remarked (eventAt w i) ≡ eventAt w i
+
 -- slots in use before moment t, those that begin or end then, and room for the rows
 pub record Ahead (d : Head) (w : List (List ℕ)) (t : ℕ) (due : Due) (s : Standing) (rows : List ℕ) : Type 0 where
   pub held : Held d w (s .holding)
@@ -59,13 +67,15 @@ pub record Ahead (d : Head) (w : List (List ℕ)) (t : ℕ) (due : Due) (s : Sta
   pub apart : OneHolderIn d w
   pub ending : SetOf (d .count) (λ i. endOf (eventAt w i) ≡ t) (due .ending)
   pub starting : SetOf (d .count) (λ i. (eventAt w i .begins ≡ t) × (eventAt w i .cancelled ≡ false)) (due .starting)
+  pub counted : Marked d w (s .counted)
   pub size : length rows ≡ rowsSize
   pub room : s .rows + length (rowsAt (d .programs) t (slotState d w .entries)) ≤ mostRows
 
 -- after it: everyone has what the definition says, and the rows are written
 pub record Past (d : Head) (old new : List (List ℕ)) (t : ℕ) (s : Standing) (rows after : List ℕ) (r : Standing) : Type 0 where
-  pub masks : MasksOnly old new
+  pub holdings : HoldingsOnly old new
   pub holders : Holders (d .count) new (r .holding)
-  pub settled : (i : ℕ) → i < d .count → maskAt new i ≡ heldAt (d .programs) t (slotState d old .entries) (eventAt old i)
+  pub settled : (i : ℕ) → i < d .count → eventAt new i ≡ withHolding (eventAt old i) (holdingAt (d .programs) t (slotState d old .entries) (eventAt old i))
+  pub counted : Marked d new (r .counted)
   pub apart : OneHolderIn d new
   pub written : Written rows (s .rows) after (r .rows) (rowsAt (d .programs) t (slotState d old .entries))

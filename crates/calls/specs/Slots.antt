@@ -12,7 +12,7 @@ use Rattle.rules.specs.Bytes.{rowsSize}
 use Rattle.rules.specs.Sound.{sound}
 use Rattle.calls.specs.declared.held.Head.{Head}
 
--- the places of the numbers in a slot: the fields of an event in their order, then effective start, held mask and the mark of a cancelled one
+-- the places of the numbers in a slot: the fields of an event in their order, then effective start, held mask, the mark of a cancelled one, and the three of a choice
 abbrev pub idPlace : ℕ
 idPlace = 0
 
@@ -52,8 +52,17 @@ heldPlace = beginsPlace + 1
 abbrev pub cancelledPlace : ℕ
 cancelledPlace = heldPlace + 1
 
+abbrev pub outPlace : ℕ
+outPlace = cancelledPlace + 1
+
+abbrev pub wasInPlace : ℕ
+wasInPlace = outPlace + 1
+
+abbrev pub wasOutPlace : ℕ
+wasOutPlace = wasInPlace + 1
+
 abbrev pub slotSize : ℕ
-slotSize = cancelledPlace + 1
+slotSize = wasOutPlace + 1
 
 -- how many values a field of so many bits has
 abbrev pub values8 : ℕ
@@ -65,17 +74,21 @@ values16 = 65536
 abbrev pub values32 : ℕ
 values32 = 4294967296
 
--- the held event that a slot's numbers are, each cut to the width of its field
-unfoldable pub entryOf : List ℕ → Entry
-entryOf w =
-    let at : ℕ → ℕ = λ place. getD w place 0 in
+-- the held event that numbers at these places are, each cut to the width of its field
+abbrev pub entryFrom : (ℕ → ℕ) → Entry
+entryFrom at =
     record {
       event = eventOf (at idPlace) (at programPlace % values8) (at controlsPlace % values32) (at createdPlace % values32) (at startPlace % values32) (at durationPlace % values32)
           (at randomizeStartPlace % values16) (at randomizeDurationPlace % values16) (at startDrawPlace % values16) (at durationDrawPlace % values16);
       begins = at beginsPlace;
       held = at heldPlace % values32;
       cancelled = eqb (at cancelledPlace) 1;
+      choice = record { out = eqb (at outPlace) 1; «was_in» = eqb (at wasInPlace) 1; «was_out» = eqb (at wasOutPlace) 1 };
     }
+
+-- the held event in a slot
+unfoldable pub entryOf : List ℕ → Entry
+entryOf w = entryFrom (λ place. getD w place 0)
 
 abbrev pub headOf : Schedule → Head
 headOf s = record { clock = s .clock; count = s .count; programs = s .programs }

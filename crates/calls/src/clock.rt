@@ -1,14 +1,15 @@
 // One moment of a clock call. What each event holds stands in the slots and nowhere else. Sets of places, one bit each, say who: the events that hold something,
-// those that end and those that begin at the moment, those that give a row.
+// those that end and those that begin at the moment, those that give a row, those for which a held second has been counted.
 ghost use mathlib.Core.Path.{_≡_};
 ghost use mathlib.Core.Bool.{true};
 ghost use mathlib.Core.List.{[], _∷_};
 ghost use Prim.Native.Nat.{ℕ, _+_, _≤_, _<_};
 ghost use lib.ListN.{length};
 ghost use Rattle.rules.specs.Records.{has, idNumber, mostEvents, mostRows};
+ghost use Rattle.rules.specs.Rows.{endCode};
 ghost use Rattle.rules.specs.Bytes.{rowsSize};
 ghost use Rattle.calls.specs.Slots.{InUse};
-ghost use Rattle.calls.specs.Sets.{Holders, setRows};
+ghost use Rattle.calls.specs.Sets.{eventAt, Holders, Counted, kindCode, setRows};
 ghost use Rattle.calls.specs.Written.{Written};
 ghost use Rattle.calls.specs.Moment.{CanStart, Started, Released, Ahead, Past};
 use crate::bits;
@@ -17,6 +18,7 @@ use crate::held::Head;
 use crate::held::Rows;
 use crate::held::Slots;
 use crate::settle;
+use rules::Choice;
 use rules::Id;
 
 // The places whose events end, and those whose events begin, at a moment.
@@ -25,9 +27,11 @@ pub(crate) struct Due {
     pub(crate) starting: u64,
 }
 
-// Where a clock call stands: the places whose events hold something, and how many rows there are.
+// Where a clock call stands: the places whose events hold something, those for which a held second has been counted since the clock, and how many rows
+// there are. The choices stay as they are during the call, so that a second one would count for nothing.
 pub(crate) struct Standing {
     pub(crate) holding: u64,
+    pub(crate) counted: u64,
     pub(crate) rows: usize,
 }
 
@@ -58,16 +62,51 @@ fn add_row(rows: &mut Rows, at: usize, t: u64, id: Id, code: u8)
     rows[b + rules::ROW_CODE] = code;
 }
 
-// The rows of the events at the places of a set; how many there are now.
-fn report(rows: &mut Rows, from: usize, t: u64, slots: &Slots, set: u64, code: u8) -> usize
+// The kinds of rows, by their codes. An end gives 3, 8, 9 or 10.
+const ENDED: u8 = 3;
+
+const SUPERSEDED: u8 = 7;
+
+const STARTED: u8 = 2;
+
+// Document 02, #102: the code of an end, by the choice.
+fn end_code(c: Choice) -> u8
+    ensures { λ r. ⌜ r ≡ endCode c ⌝ }
+{
+    if !c.was_out {
+        return 3;
+    }
+    if !c.was_in {
+        return 10;
+    }
+    if c.out {
+        return 8;
+    }
+    9
+}
+
+// The code of the event in slot i with a kind of row.
+fn code_at(slots: &Slots, i: usize, kind: u8) -> u8
+    requires { ⌜ i < mostEvents ⌝ }
+    ensures { λ r. ⌜ r ≡ kindCode kind (eventAt (now (slots .entry)) i) ⌝ }
+{
+    if kind == ENDED {
+        return end_code(held::choice_at(slots, i));
+    }
+    kind
+}
+
+// The rows of one kind of the events at the places of a set; how many there are now.
+fn report(rows: &mut Rows, from: usize, t: u64, slots: &Slots, set: u64, kind: u8) -> usize
     requires { ⌜ (length (now rows) ≡ rowsSize) × ((i : ℕ) → has set i ≡ true → i < mostEvents)
-        × (from + length (setRows t code (now slots) set) ≤ mostRows) ⌝ }
-    ensures { λ r. ⌜ Written (now (rows .entry)) from (now (rows .exit)) r (setRows t code (now (slots .entry)) set) ⌝ }
+        × (from + length (setRows t kind (now slots) set) ≤ mostRows) ⌝ }
+    ensures { λ r. ⌜ Written (now (rows .entry)) from (now (rows .exit)) r (setRows t kind (now (slots .entry)) set) ⌝ }
 {
     let mut at = from;
     let mut rest = set;
     while rest != 0 {
         let next = bits::lowest(rest);
+        let code = code_at(slots, next.place, kind);
         add_row(rows, at, t, held::id_at(slots, next.place), code);
         at += 1;
         rest = next.rest;
@@ -105,8 +144,23 @@ fn start(d: Head, slots: &mut Slots, holding: u64, starting: u64) -> u64
     now
 }
 
-// Moment t: what ends gives its row and its controls, and then what begins contends with those that hold. The rows are 3 for an end, 7 for who holds nothing any
-// more or not even at its start, 2 for a start.
+// Document 02, #102: a held second is counted for the events of a set.
+pub(crate) fn count(slots: &mut Slots, set: u64)
+    requires { ⌜ (length (now slots) ≡ mostEvents) × ((i : ℕ) → has set i ≡ true → i < mostEvents) ⌝ }
+    ensures { λ _. ⌜ Counted set (now (slots .entry)) (now (slots .exit)) ⌝ }
+{
+    let mut rest = set;
+    while rest != 0 {
+        let next = bits::lowest(rest);
+        let i = next.place;
+        let slot = slots[i];
+        slots[i] = held::with_second(slot);
+        rest = next.rest;
+    }
+}
+
+// Moment t: what ends gives its row and its controls, and then what begins contends with those that hold. The rows are those of ends, those of who holds nothing
+// any more or not even at its start, those of starts. Then the second is counted for those that hold something.
 pub(crate) fn moment(
     d: Head,
     slots: &mut Slots,
@@ -119,11 +173,23 @@ pub(crate) fn moment(
     ensures { λ r. ⌜ Past d (now (slots .entry)) (now (slots .exit)) t s (now (rows .entry)) (now (rows .exit)) r ⌝ }
 {
     let ended = due.ending & s.holding;
-    let ends = report(rows, s.rows, t, slots, ended, 3);
+    let ends = report(rows, s.rows, t, slots, ended, ENDED);
     let before = release(slots, s.holding, ended);
     let holding = start(d, slots, before, due.starting);
     let contenders = before | due.starting;
-    let losses = report(rows, ends, t, slots, contenders ^ (contenders & holding), 7);
-    let all = report(rows, losses, t, slots, due.starting & holding, 2);
-    Standing { holding, rows: all }
+    let losses = report(
+        rows,
+        ends,
+        t,
+        slots,
+        contenders ^ (contenders & holding),
+        SUPERSEDED,
+    );
+    let all = report(rows, losses, t, slots, due.starting & holding, STARTED);
+    count(slots, holding ^ (holding & s.counted));
+    Standing {
+        holding,
+        counted: s.counted | holding,
+        rows: all,
+    }
 }

@@ -1,11 +1,12 @@
-// Events delivered and cancelled: the place of an id among the slots, the tests in checking order, and the event stored there.
+// Events delivered and cancelled, and choices on them: the place of an id among the slots, the tests in checking order, and the event stored there.
 ghost use mathlib.Core.Path.{_≡_};
+ghost use mathlib.Core.Bool.{cond};
 ghost use mathlib.Core.List.{[], map};
 ghost use Prim.Native.Nat.{_≤_};
 ghost use lib.ListN.{take};
-ghost use Rattle.rules.specs.Records.{lastClock, idNumber, idOf};
+ghost use Rattle.rules.specs.Records.{lastClock, idNumber, idOf, differ};
 ghost use Rattle.rules.specs.Refusals.{late, firstOf};
-ghost use Rattle.rules.specs.Calls.{call, deliver, cancel, checks};
+ghost use Rattle.rules.specs.Calls.{call, deliver, cancel, choose, checks};
 ghost use Rattle.calls.specs.Slots.{entryOf, slotState, scheduleOf, InUse, Ready};
 ghost use Rattle.calls.specs.Answered.{Acts};
 ghost use Rattle.calls.specs.Found.{PlaceOf, Found, FoundIn, CanOpen, widened};
@@ -15,6 +16,7 @@ use crate::held::Head;
 use crate::held::Slot;
 use crate::held::Slots;
 use rules::Answer;
+use rules::Choice;
 use rules::Entry;
 use rules::Event;
 use rules::Id;
@@ -139,6 +141,7 @@ pub(crate) fn deliver(mut d: Head, slots: &mut Slots, e: Event) -> Acted
         begins: period.start,
         held: 0,
         cancelled: false,
+        choice: Choice::none(),
     });
     put_in(slots, d.count, p.at, slot);
     d.count += 1;
@@ -164,11 +167,13 @@ pub(crate) fn cancel(d: Head, slots: &mut Slots, id: Id) -> Acted
     let slot = slots[at];
     let h = held::entry_of(slot);
     let event = h.event;
+    let choice = h.choice;
     slots[at] = held::slot_of(Entry {
         event,
         begins: h.begins,
         held: 0,
         cancelled: true,
+        choice,
     });
     if h.cancelled {
         return Acted {
@@ -178,6 +183,45 @@ pub(crate) fn cancel(d: Head, slots: &mut Slots, id: Id) -> Acted
     }
     Acted {
         answer: Answer::Code(6),
+        head: d,
+    }
+}
+
+// Document 02, #102: the code of a choice; one that repeats the present choice gives 0.
+fn choice_code(before: bool, out: bool) -> u8
+    ensures { λ r. ⌜ r ≡ cond (differ before out) (cond out 4 5) 0 ⌝ }
+{
+    if before {
+        if out {
+            return 0;
+        }
+        return 5;
+    }
+    if out {
+        return 4;
+    }
+    0
+}
+
+// Document 02, #102, opt out and opt in. Nothing but the present choice changes.
+pub(crate) fn choose(d: Head, slots: &mut Slots, id: Id, out: bool) -> Acted
+    requires { ⌜ Ready d (now slots) ⌝ }
+    ensures { λ r. ⌜ Acts r (now (slots .exit)) [] (call (scheduleOf d (now (slots .entry))) (choose (idNumber id) out)) ⌝ }
+{
+    let p = place_of(d, slots, id);
+    if !p.held {
+        return Acted {
+            answer: Answer::Refused(11),
+            head: d,
+        };
+    }
+    let at = p.at;
+    let before = held::choice_at(slots, at);
+    let code = choice_code(before.out, out);
+    let slot = slots[at];
+    slots[at] = held::with_choice(slot, out);
+    Acted {
+        answer: Answer::Code(code),
         head: d,
     }
 }

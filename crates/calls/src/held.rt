@@ -6,15 +6,18 @@ ghost use mathlib.Core.List.{[]};
 ghost use Prim.Native.Nat.{_<_};
 ghost use lib.ListN.{getD};
 ghost use Rattle.rules.specs.Records.{mostEvents};
-ghost use Rattle.rules.specs.Holding.{endOf, withHolding};
+ghost use Rattle.rules.specs.Holding.{endOf};
 ghost use Rattle.calls.specs.Slots.{entryOf, headOf, scheduleOf, InUse, CanTake, TakenApart};
+ghost use Rattle.calls.specs.Sets.{masked, counting, chosen};
+use rules::Choice;
 use rules::Entry;
 use rules::Event;
 use rules::Id;
 use rules::Program;
 use rules::Schedule;
 
-// The places of the numbers in a slot: the fields in document 01's order, then effective start, held mask, and 1 if the event is cancelled.
+// The places of the numbers in a slot: the fields in document 01's order, then effective start, held mask, 1 if the event is cancelled, and the choice: 1 if the
+// user is out, was in, was out.
 const ID: usize = 0;
 
 const PROGRAM: usize = ID + 1;
@@ -41,7 +44,13 @@ const HELD: usize = BEGINS + 1;
 
 const CANCELLED: usize = HELD + 1;
 
-const SLOT_SIZE: usize = CANCELLED + 1;
+const OUT: usize = CANCELLED + 1;
+
+const WAS_IN: usize = OUT + 1;
+
+const WAS_OUT: usize = WAS_IN + 1;
+
+const SLOT_SIZE: usize = WAS_OUT + 1;
 
 // How many values a field of 8, 16 or 32 bits has.
 const VALUES8: u64 = 0x100;
@@ -71,10 +80,10 @@ pub(crate) struct Head {
 
 pub(crate) type Programs = [Program; Schedule::PROGRAMS];
 
-fn mark(cancelled: bool) -> u64
-    ensures { λ r. ⌜ r ≡ cond cancelled 1 0 ⌝ }
+fn mark(b: bool) -> u64
+    ensures { λ r. ⌜ r ≡ cond b 1 0 ⌝ }
 {
-    if cancelled {
+    if b {
         return 1;
     }
     0
@@ -98,6 +107,9 @@ pub(crate) fn slot_of(h: Entry) -> Slot
         h.begins,
         h.held as u64,
         mark(h.cancelled),
+        mark(h.choice.out),
+        mark(h.choice.was_in),
+        mark(h.choice.was_out),
     ]
 }
 
@@ -116,19 +128,45 @@ pub(crate) fn entry_of(slot: Slot) -> Entry
         start_draw: (slot[START_DRAW] % VALUES16) as u16,
         duration_draw: (slot[DURATION_DRAW] % VALUES16) as u16,
     };
+    let choice = Choice {
+        out: slot[OUT] == 1,
+        was_in: slot[WAS_IN] == 1,
+        was_out: slot[WAS_OUT] == 1,
+    };
     Entry {
         event,
         begins: slot[BEGINS],
         held: (slot[HELD] % VALUES32) as u32,
         cancelled: slot[CANCELLED] == 1,
+        choice,
     }
 }
 
 // The event in a slot with another held mask.
 pub(crate) fn with_mask(mut slot: Slot, held: u32) -> Slot
-    ensures { λ r. ⌜ entryOf r ≡ withHolding (entryOf slot) (record { held = held }) ⌝ }
+    ensures { λ r. ⌜ entryOf r ≡ masked (entryOf slot) held ⌝ }
 {
     slot[HELD] = held as u64;
+    slot
+}
+
+// The event in a slot with a held second counted, by its choice.
+pub(crate) fn with_second(mut slot: Slot) -> Slot
+    ensures { λ r. ⌜ entryOf r ≡ counting (entryOf slot) ⌝ }
+{
+    if slot[OUT] == 1 {
+        slot[WAS_OUT] = 1;
+        return slot;
+    }
+    slot[WAS_IN] = 1;
+    slot
+}
+
+// The event in a slot with a choice made.
+pub(crate) fn with_choice(mut slot: Slot, out: bool) -> Slot
+    ensures { λ r. ⌜ entryOf r ≡ chosen (entryOf slot) out ⌝ }
+{
+    slot[OUT] = mark(out);
     slot
 }
 
@@ -191,6 +229,17 @@ pub(crate) fn is_cancelled_at(slots: &Slots, i: usize) -> bool
     ensures { λ r. ⌜ r ≡ entryOf (getD (now (slots .entry)) i []) .cancelled ⌝ }
 {
     slots[i][CANCELLED] == 1
+}
+
+pub(crate) fn choice_at(slots: &Slots, i: usize) -> Choice
+    requires { ⌜ i < mostEvents ⌝ }
+    ensures { λ r. ⌜ r ≡ entryOf (getD (now (slots .entry)) i []) .choice ⌝ }
+{
+    Choice {
+        out: slots[i][OUT] == 1,
+        was_in: slots[i][WAS_IN] == 1,
+        was_out: slots[i][WAS_OUT] == 1,
+    }
 }
 
 pub(crate) fn head_of(s: Schedule) -> Head

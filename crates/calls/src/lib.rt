@@ -3,7 +3,7 @@
 ghost use mathlib.Core.Path.{_≡_};
 ghost use mathlib.Core.List.{[]};
 ghost use Rattle.rules.specs.Records.{idNumber};
-ghost use Rattle.rules.specs.Calls.{call, addProgram, deliver, cancel, setClock, ask};
+ghost use Rattle.rules.specs.Calls.{call, addProgram, deliver, cancel, choose, setClock, ask};
 ghost use Rattle.calls.specs.Slots.{InUse};
 ghost use Rattle.calls.specs.Answered.{outcomeOf, refusedWith, ByValue};
 ghost use Rattle.calls.specs.Lines.{lineOutcome, ranOf, runOutcome};
@@ -109,6 +109,19 @@ pub fn cancel(s: Schedule, id: Id) -> Answered
     by_value(done, &slots)
 }
 
+// Document 02, #102, opt out (`out`) and opt in: code 4 or 5, or 0 if it repeats the present choice.
+pub fn choose(s: Schedule, id: Id, out: bool) -> Answered
+    ensures { λ r. ⌜ outcomeOf r [] [] ≡ call s (choose (idNumber id) out) ⌝ }
+{
+    if !sound::is_sound(s) {
+        return refused(s, 2);
+    }
+    let mut slots = held::NO_SLOTS;
+    held::take_apart(s, &mut slots);
+    let done = events::choose(held::head_of(s), &mut slots, id, out);
+    by_value(done, &slots)
+}
+
 // Calls, set the clock: the rows of the moments passed go into the buffer, and their count is the answer.
 pub fn set_clock(s: Schedule, reading: u64, buffer: &mut [u8]) -> Answered
     ensures { λ r. ⌜ outcomeOf r (now (buffer .exit)) [] ≡ call s (setClock reading (now (buffer .entry))) ⌝ }
@@ -149,6 +162,8 @@ pub fn act(s: Schedule, line: &[u8], buffer: &mut [u8]) -> Answered
         Frame::Clock(t) => set_clock(s, t, buffer),
         Frame::Program(n, p, d) => add_program(s, n, p, d),
         Frame::Ask(c) => ask(s, c),
+        Frame::OptOut(id) => choose(s, id, true),
+        Frame::OptIn(id) => choose(s, id, false),
     }
 }
 

@@ -37,6 +37,8 @@ fn act_on(d: Head, slots: &mut Slots, f: Frame, rows: &mut Rows) -> Acted
             answer: programs::ask(d, slots, c),
             head: d,
         },
+        Frame::OptOut(id) => events::choose(d, slots, id, true),
+        Frame::OptIn(id) => events::choose(d, slots, id, false),
     }
 }
 

@@ -3,8 +3,8 @@ ghost use mathlib.Core.Path.{_≡_};
 ghost use mathlib.Core.List.{List, [], map};
 ghost use Prim.Native.Nat.{ℕ, _<_};
 ghost use lib.ListN.{take, getD};
-ghost use Rattle.rules.specs.Records.{mostEvents, has, mostControls};
-ghost use Rattle.rules.specs.Calls.{call, addProgram, ask, valueOf, holderIn, bestOf, bestDefault, defaultFor};
+ghost use Rattle.rules.specs.Records.{mostEvents, mostControls};
+ghost use Rattle.rules.specs.Calls.{call, addProgram, ask, valueOf, governs, holderIn, bestOf, bestDefault, defaultFor};
 ghost use Rattle.calls.specs.Slots.{entryOf, scheduleOf, Ready};
 ghost use Rattle.calls.specs.Answered.{told, Tells, Acts};
 ghost use Rattle.calls.specs.Best.{ranked, carrying, CanLook};
@@ -109,22 +109,23 @@ fn default_of(programs: Programs, control: u32) -> Answer
     Answer::Nobody
 }
 
-// Whether the event in a slot holds the control.
-fn is_holder(slots: &Slots, i: usize, control: u32) -> bool
+// Whether the event in a slot holds the control and its user is in.
+fn is_governor(slots: &Slots, i: usize, control: u32) -> bool
     requires { ⌜ (i < mostEvents) × (control < mostControls) ⌝ }
-    ensures { λ r. ⌜ r ≡ has (entryOf (getD (now (slots .entry)) i []) .held) control ⌝ }
+    ensures { λ r. ⌜ r ≡ governs control (entryOf (getD (now (slots .entry)) i [])) ⌝ }
 {
-    settle::is_in(held::held_at(slots, i), control)
+    let choice = held::choice_at(slots, i);
+    settle::is_in(held::held_at(slots, i), control) & !choice.out
 }
 
-// Calls, ask: the event that holds the control, else the other answer.
+// Calls, ask: the event that holds the control if its user is in, else the other answer.
 fn holder_or(slots: &Slots, n: usize, control: u32, other: Answer) -> Answer
     requires { ⌜ CanLook control n (now slots) other ⌝ }
     ensures { λ r. ⌜ Tells r (holderIn control (map entryOf (take n (now (slots .entry)))) (valueOf other)) ⌝ }
 {
     let mut i = 0;
     while i < n {
-        if is_holder(slots, i, control) {
+        if is_governor(slots, i, control) {
             let id = held::id_at(slots, i);
             return Answer::Holder(id);
         }

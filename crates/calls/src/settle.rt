@@ -4,7 +4,7 @@ ghost use Prim.Native.Nat.{_<_};
 ghost use lib.ListN.{length};
 ghost use Rattle.rules.specs.Records.{has, cut, idNumber, mostControls, mostEvents, mostPrograms, programAt};
 ghost use Rattle.rules.specs.Holding.{better};
-ghost use Rattle.calls.specs.Sets.{eventAt, rankIn, Masked, Counted};
+ghost use Rattle.calls.specs.Sets.{eventAt, rankIn, Masked, Kept};
 ghost use Rattle.calls.specs.Settled.{Comes, Contended};
 use crate::bits;
 use crate::held;
@@ -83,7 +83,7 @@ fn without(mask: u32, other: u32) -> u32
 // Gives the event at place i a mask; the set of those that hold something follows.
 pub(crate) fn hold(slots: &mut Slots, holding: u64, i: usize, mask: u32) -> u64
     requires { ⌜ (i < mostEvents) × (length (now slots) ≡ mostEvents) ⌝ }
-    ensures { λ r. ⌜ Masked i mask (now (slots .entry)) (now (slots .exit)) × Counted i mask holding r ⌝ }
+    ensures { λ r. ⌜ Masked i mask (now (slots .entry)) (now (slots .exit)) × Kept i mask holding r ⌝ }
 {
     let slot = slots[i];
     slots[i] = held::with_mask(slot, mask);

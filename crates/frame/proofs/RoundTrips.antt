@@ -10,12 +10,13 @@ use lib.Dec.{eqb}
 use lib.ListN.{length, getD, drop, length-drop, drop-of-length-le}
 use lib.Seq.{drop-cons, drop-drop, getD-drop}
 use mir.Val.{Val}
+use Rattle.rules.specs.declared.Id.{Id}
 use Rattle.rules.specs.declared.Frame.{Frame}
 use Rattle.rules.specs.declared.Frame.the-variants as frame
 use Rattle.rules.specs.declared.Line.the-variants.{Good, Bad}
 use Rattle.rules.specs.Records.{idSize, idLimit, idNumber}
 use Rattle.rules.specs.Bytes.{big, read, idAt, eventSize, eventAt, eventBytes}
-use Rattle.rules.specs.Frames.{eventFrame, programFrame, paired, unhex, isFrame, frameOf, lineOf}
+use Rattle.rules.specs.Frames.{eventFrame, idFrame, programFrame, paired, unhex, isFrame, frameOf, lineOf}
 use Rattle.rules.proofs.IdLaws.{number-id, id-number}
 use Rattle.rules.proofs.Numbers.{Bytes, read-below, read-big, piece}
 use Rattle.rules.proofs.Entries.{FitsEvent, event-of-bytes, event-drop, event-piece}
@@ -33,6 +34,8 @@ FitsFrame (frame.Cancel i) = idNumber i < idLimit
 FitsFrame (frame.Clock t) = t < 256 ^ 8
 FitsFrame (frame.Program n p d) = (n < 256 ^ 1) × (p < 256 ^ 1) × (d < 256 ^ 4)
 FitsFrame (frame.Ask c) = c < 256 ^ 1
+FitsFrame (frame.OptOut i) = idNumber i < idLimit
+FitsFrame (frame.OptIn i) = idNumber i < idLimit
 
 pub frame-fits : (f : Frame) (vs : List Val) → Owned frames.the-field f vs → FitsFrame f
 unfolding idNumber
@@ -41,6 +44,8 @@ frame-fits (frame.Cancel i) vs s = search needs
 frame-fits (frame.Clock t) vs s = search needs
 frame-fits (frame.Program n p d) vs s = search needs
 frame-fits (frame.Ask c) vs s = search needs
+frame-fits (frame.OptOut i) vs s = search needs
+frame-fits (frame.OptIn i) vs s = search needs
 
 small-bytes : (f : Frame) → Small (frameBytes f)
 unfolding frameBytes fieldBytes eventBytes big
@@ -49,14 +54,23 @@ small-bytes (frame.Cancel i) = omega arith
 small-bytes (frame.Clock t) = omega arith
 small-bytes (frame.Program n p d) = omega arith
 small-bytes (frame.Ask c) = omega arith
+small-bytes (frame.OptOut i) = omega arith
+small-bytes (frame.OptIn i) = omega arith
+
+-- the id behind a kind
+id-of-bytes : (k : ℕ) (i : Id) → idNumber i < idLimit → idAt 1 (k ∷ big idSize (idNumber i)) ≡ i
+unfolding big read
+id-of-bytes k i h = rw (read-big idSize (idNumber i) h, id-number i)
 
 frame-of-bytes : (f : Frame) → FitsFrame f → frameOf (frameBytes f) ≡ Good f
 unfolding frameOf isFrame frameBytes fieldBytes eventBytes big read
 frame-of-bytes (frame.Event e) h = ap (λ x. Good (frame.Event x)) (sym (event-drop 1 (1 ∷ eventBytes e)) ∙ event-of-bytes e h [])
-frame-of-bytes (frame.Cancel i) h = rw (read-big idSize (idNumber i) h, id-number i)
+frame-of-bytes (frame.Cancel i) h = rw (id-of-bytes 2 i h)
 frame-of-bytes (frame.Clock t) h = rw (read-big 8 t h)
 frame-of-bytes (frame.Program n p d) h = rw (read-big 1 n (h .0), read-big 1 p (h .1), read-big 4 d (h .2))
 frame-of-bytes (frame.Ask c) h = rw (read-big 1 c h)
+frame-of-bytes (frame.OptOut i) h = rw (id-of-bytes 6 i h)
+frame-of-bytes (frame.OptIn i) h = rw (id-of-bytes 7 i h)
 
 pub line-of-encoded : (f : Frame) → FitsFrame f → lineOf (encoded f) ≡ Good f
 unfolding lineOf encoded
@@ -76,8 +90,9 @@ module _ (b : List ℕ) (bytes : Bytes b) where
       let room : eventSize ≤ length (drop 1 b) = simp length-drop (omega arith) in
       rw (event-drop, drop-drop) at (event-piece (drop 1 b) (λ i. rw getD-drop (bytes (1 + i))) room)
 
-  of-id : 1 + idSize ≤ length b → big idSize (idNumber (idAt 1 b)) ++ drop (1 + idSize) b ≡ drop 1 b
-  of-id h = rw (number-id (read idSize 1 b) (read-below b bytes idSize 1)) (piece b bytes idSize 1 (omega arith))
+  -- the kinds that have an id alone
+  of-id : (k : ℕ) → getD b 0 0 ≡ k → length b ≡ idFrame → k ∷ big idSize (idNumber (idAt 1 b)) ≡ b
+  of-id k i h = behind k idSize _ i h (rw (number-id (read idSize 1 b) (read-below b bytes idSize 1)) (piece b bytes idSize 1 (omega arith)))
 
   of-program : length b ≡ programFrame → programFields (read 1 1 b) (read 1 2 b) (read 4 3 b) ++ drop programFrame b ≡ drop 1 b
   of-program h = simp append-assoc (rw (piece b bytes 4 3 (omega arith), piece b bytes 1 2 (omega arith), piece b bytes 1 1 (omega arith)))
@@ -91,10 +106,12 @@ module _ (b : List ℕ) (bytes : Bytes b) where
     by-fields =
         by-kind IsBytes
         (λ i n q. let g : f ≡ frame.Event (eventAt 1 b) = cc in rw g (behind 1 eventSize _ i n (of-event n)))
-        (λ i n q. let g : f ≡ frame.Cancel (idAt 1 b) = cc in rw g (behind 2 idSize _ i n (of-id (omega arith))))
+        (λ i n q. let g : f ≡ frame.Cancel (idAt 1 b) = cc in rw g (of-id 2 i n))
         (λ i n q. let g : f ≡ frame.Clock (read 8 1 b) = cc in rw g (behind 3 8 _ i n (piece b bytes 8 1 (omega arith))))
         (λ i n q. let g : f ≡ frame.Program (read 1 1 b) (read 1 2 b) (read 4 3 b) = cc in rw g (behind 4 6 _ i n (of-program n)))
         (λ i n q. let g : f ≡ frame.Ask (read 1 1 b) = cc in rw g (behind 5 1 _ i n (piece b bytes 1 1 (omega arith))))
+        (λ i n q. let g : f ≡ frame.OptOut (idAt 1 b) = cc in rw g (of-id 6 i n))
+        (λ i n q. let g : f ≡ frame.OptIn (idAt 1 b) = cc in rw g (of-id 7 i n))
         (λ k none i n q. let e = frame-none k none b in let z : _≡_ {A = ℕ} 0 1 = cc in absurd (omega arith))
 
     bytes-of-frame : frameOf b ≡ Good f → frameBytes f ≡ b

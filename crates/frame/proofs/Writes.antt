@@ -38,6 +38,8 @@ size-of-frame (frame.Cancel i) = refl
 size-of-frame (frame.Clock t) = refl
 size-of-frame (frame.Program n p d) = refl
 size-of-frame (frame.Ask c) = refl
+size-of-frame (frame.OptOut i) = refl
+size-of-frame (frame.OptIn i) = refl
 
 kind-byte : (f : Frame) → big 1 (kindOf f) ≡ kindOf f ∷ []
 unfolding big
@@ -46,6 +48,8 @@ kind-byte (frame.Cancel i) = refl
 kind-byte (frame.Clock t) = refl
 kind-byte (frame.Program n p d) = refl
 kind-byte (frame.Ask c) = refl
+kind-byte (frame.OptOut i) = refl
+kind-byte (frame.OptIn i) = refl
 
 -- in an array of the longest frame the bytes of a frame stand at the front
 pub frame-stands : (f : Frame) (l : List ℕ) → length l ≡ eventFrame → {m n : List ℕ} → m ≡ putAt 1 0 (kindOf f) l → n ≡ overAt 1 (fieldBytes f) m

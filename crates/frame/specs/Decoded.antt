@@ -9,17 +9,19 @@ use Rattle.rules.specs.declared.Line.{Line}
 use Rattle.rules.specs.declared.Line.the-variants.{Good, Bad}
 use Rattle.rules.specs.declared.Frame.the-variants as frame
 use Rattle.rules.specs.Bytes.{read, idAt, eventAt}
-use Rattle.rules.specs.Frames.{eventFrame, cancelFrame, clockFrame, programFrame, askFrame, digit, paired, unhex}
+use Rattle.rules.specs.Frames.{eventFrame, idFrame, clockFrame, programFrame, askFrame, digit, paired, unhex}
 
 -- Frames and image, how many bytes a frame of a kind has, 0 for a number that is no kind
 unfoldable pub sizeOf : ℕ → ℕ
 sizeOf kind =
     cond (eqb kind 1) eventFrame
-    (cond (eqb kind 2) cancelFrame
+    (cond (eqb kind 2) idFrame
     (cond (eqb kind 3) clockFrame
     (cond (eqb kind 4) programFrame
     (cond (eqb kind 5) askFrame
-    0))))
+    (cond (eqb kind 6) idFrame
+    (cond (eqb kind 7) idFrame
+    0))))))
 
 -- the longest line: that of an event
 abbrev pub longestLine : ℕ
@@ -33,7 +35,9 @@ frameAs kind b =
     (cond (eqb kind 3) (Good (frame.Clock (read 8 1 b)))
     (cond (eqb kind 4) (Good (frame.Program (read 1 1 b) (read 1 2 b) (read 4 3 b)))
     (cond (eqb kind 5) (Good (frame.Ask (read 1 1 b)))
-    Bad))))
+    (cond (eqb kind 6) (Good (frame.OptOut (idAt 1 b)))
+    (cond (eqb kind 7) (Good (frame.OptIn (idAt 1 b)))
+    Bad))))))
 
 -- what a byte stands for as a digit, 256 where it is none, so that a pair with such a byte is above 255
 unfoldable pub worth : ℕ → ℕ

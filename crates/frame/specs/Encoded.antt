@@ -26,6 +26,8 @@ kindOf (frame.Cancel i) = 2
 kindOf (frame.Clock t) = 3
 kindOf (frame.Program n p d) = 4
 kindOf (frame.Ask c) = 5
+kindOf (frame.OptOut i) = 6
+kindOf (frame.OptIn i) = 7
 
 -- Frames and image, the fields of a program: number, primacy, defaults
 abbrev pub programFields : (n p d : ℕ) → List ℕ
@@ -38,6 +40,8 @@ fieldBytes (frame.Cancel i) = big idSize (idNumber i)
 fieldBytes (frame.Clock t) = big 8 t
 fieldBytes (frame.Program n p d) = programFields n p d
 fieldBytes (frame.Ask c) = big 1 c
+fieldBytes (frame.OptOut i) = big idSize (idNumber i)
+fieldBytes (frame.OptIn i) = big idSize (idNumber i)
 
 -- Frames and image, the kind and then the fields
 unfoldable pub frameBytes : Frame → List ℕ

@@ -22,6 +22,8 @@ pub(crate) fn frame_as(kind: u16, b: &[u8]) -> Line
             Line::Good(Frame::Program(b[1], b[2], defaults))
         }
         5 => Line::Good(Frame::Ask(b[1])),
+        6 => Line::Good(Frame::OptOut(octets::get_id(b, 1))),
+        7 => Line::Good(Frame::OptIn(octets::get_id(b, 1))),
         _ => Line::Bad,
     }
 }
@@ -33,7 +35,7 @@ pub(crate) fn put(b: &mut [u8], f: Frame)
 {
     match f {
         Frame::Event(e) => octets::put_event(b, 1, e),
-        Frame::Cancel(id) => octets::put_id(b, 1, id),
+        Frame::Cancel(id) | Frame::OptOut(id) | Frame::OptIn(id) => octets::put_id(b, 1, id),
         Frame::Clock(t) => octets::put8(b, 1, t),
         Frame::Program(n, p, d) => put_program(b, n, p, d),
         Frame::Ask(c) => octets::put(b, 1, 1, c as u64),

@@ -19,7 +19,8 @@ use rules::Line;
 // Frames and image. Bytes of each kind of frame: the kind, and then the fields. An event's frame is the longest.
 const EVENT_FRAME: usize = 1 + Event::SIZE;
 
-const CANCEL_FRAME: usize = 1 + Id::SIZE;
+// A cancellation's, and document 02, #102: an opt-out's and an opt-in's.
+const ID_FRAME: usize = 1 + Id::SIZE;
 
 const CLOCK_FRAME: usize = 9;
 
@@ -38,10 +39,12 @@ fn size_of(kind: u16) -> usize
 {
     match kind {
         1 => EVENT_FRAME,
-        2 => CANCEL_FRAME,
+        2 => ID_FRAME,
         3 => CLOCK_FRAME,
         4 => PROGRAM_FRAME,
         5 => ASK_FRAME,
+        6 => ID_FRAME,
+        7 => ID_FRAME,
         _ => 0,
     }
 }
@@ -79,6 +82,8 @@ fn kind_of(f: Frame) -> u16
         Frame::Clock(_) => 3,
         Frame::Program(_, _, _) => 4,
         Frame::Ask(_) => 5,
+        Frame::OptOut(_) => 6,
+        Frame::OptIn(_) => 7,
     }
 }
 

@@ -2,9 +2,10 @@
 // and stores what the call left. A question stores nothing, since an accepted image is that of its schedule; a listing checks the schedule and writes its
 // records, and makes no call. A number that is returned is an answer, or the two's complement of a refusal's negative; a refused operation leaves every byte.
 ghost use mathlib.Core.Path.{_≡_};
+ghost use mathlib.Core.Bool.{true, false};
 ghost use mathlib.Core.List.{[]};
 ghost use Rattle.rules.specs.Records.{eventOf};
-ghost use Rattle.rules.specs.Face.{addsProgram, delivers, cancels, setsClock, asks, lists, face, faceFresh};
+ghost use Rattle.rules.specs.Face.{addsProgram, delivers, cancels, chooses, setsClock, asks, lists, face, faceFresh};
 ghost use Rattle.hadulmir.specs.Outcomes.{loadOutcome, storeOutcome, faceOf};
 
 mod answers;
@@ -136,6 +137,34 @@ pub extern "C" fn hadulmir_cancel(image: &mut [u8], id: u64) -> u32
     }
     let s = read.schedule;
     answers::finish(calls::cancel(s, Id::of(id)), image)
+}
+
+// Document 02, #102, opt out or opt in.
+fn choose(image: &mut [u8], id: u64, out: bool) -> u32
+    ensures { λ r. ⌜ faceOf r (now (image .exit)) [] ≡ face (now (image .entry)) (chooses id out) [] ⌝ }
+{
+    let read = image::read(image);
+    if !read.formed {
+        return answers::negative(2);
+    }
+    let s = read.schedule;
+    answers::finish(calls::choose(s, Id::of(id), out), image)
+}
+
+// Document 02, #102, opt out.
+#[no_mangle]
+pub extern "C" fn hadulmir_opt_out(image: &mut [u8], id: u64) -> u32
+    ensures { λ r. ⌜ faceOf r (now (image .exit)) [] ≡ face (now (image .entry)) (chooses id true) [] ⌝ }
+{
+    choose(image, id, true)
+}
+
+// Document 02, #102, opt in.
+#[no_mangle]
+pub extern "C" fn hadulmir_opt_in(image: &mut [u8], id: u64) -> u32
+    ensures { λ r. ⌜ faceOf r (now (image .exit)) [] ≡ face (now (image .entry)) (chooses id false) [] ⌝ }
+{
+    choose(image, id, false)
 }
 
 // Calls, set the clock. The rows go over the front of `rows`.

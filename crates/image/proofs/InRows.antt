@@ -42,14 +42,14 @@ mark-byte true = refl
 mark-byte false = refl
 
 -- the next mark and those after it, k bytes on
-pub record NextMark (k left place : ℕ) (l : List ℕ) : Type 0 where
+pub record NextMark (most k left place : ℕ) (l : List ℕ) : Type 0 where
   pub room : place + k * left ≡ place + k + k * (left - 1)
-  pub marks : marked k left place l ≡ leb (read 1 place l) 1 && marked k (left - 1) (place + k) l
+  pub marks : marked most k left place l ≡ leb (read 1 place l) most && marked most k (left - 1) (place + k) l
 
-pub next-mark : (k left place : ℕ) (l : List ℕ) → 0 < left → NextMark k left place l
+pub next-mark : (most k left place : ℕ) (l : List ℕ) → 0 < left → NextMark most k left place l
 unfolding marked
-next-mark k zero place l h = absurd (omega arith)
-next-mark k (suc n) place l h = let d : suc n - 1 ≡ n = omega arith in record { room = rw d (omega (arith, mul-suc k n)); marks = rw d }
+next-mark most k zero place l h = absurd (omega arith)
+next-mark most k (suc n) place l h = let d : suc n - 1 ≡ n = omega arith in record { room = rw d (omega (arith, mul-suc k n)); marks = rw d }
 
 module _ {A : Type 0} (put : A → List ℕ) (k : ℕ) (size : (x : A) → length (put x) ≡ k) where
   -- the first i were written, and one more is

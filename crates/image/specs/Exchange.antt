@@ -12,7 +12,7 @@ use Rattle.rules.specs.Bytes.{entrySize, recordSize, recordBytes}
 use Rattle.rules.specs.Image.{imageSize, image, loaded, formed}
 use Rattle.image.specs.declared.Loaded.{Loaded}
 
--- n marks, k bytes from one to the next, stand in a list from `at` on
+-- n marks or choices, k bytes from one to the next, stand in a list from `at` on
 pub record MarksInside (k n at : ℕ) (l : List ℕ) : Type 0 where
   pub step : k ≤ entrySize
   pub last : at + k * n < length l + k
@@ -21,7 +21,7 @@ pub record MarksInside (k n at : ℕ) (l : List ℕ) : Type 0 where
 abbrev pub noImage : Loaded
 noImage = record { formed = false; schedule = pad fresh }
 
--- Frames and image, the schedule of an image that keeps its length and its marks, whatever else it says
+-- Frames and image, the schedule of an image that keeps its length, its marks and the bits of its choices, whatever else it says
 unfoldable pub readOf : List ℕ → Loaded
 readOf l = cond (formed l) (record { formed = true; schedule = loaded l }) noImage
 

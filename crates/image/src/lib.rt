@@ -11,10 +11,18 @@ use rules::Program;
 use rules::Record;
 use rules::Schedule;
 
-// Where the count of events stands in an image, and the mark of the first.
+// Where the count of events stands in an image, and the mark and the choice of the first.
 const COUNT: usize = 8;
 
 const FIRST_MARK: usize = Schedule::ENTRIES_AT + Entry::MARK;
+
+const FIRST_CHOICE: usize = Schedule::ENTRIES_AT + Entry::CHOICE;
+
+// The greatest byte of a mark.
+const LAST_MARK: u8 = 1;
+
+// Document 02, #102. The greatest byte of a choice: it has no bit above 2.
+const LAST_CHOICE: u8 = 7;
 
 // Where primacy and defaults stand in a program entry, and effective start and held mask in an event entry.
 const PRIMACY: usize = 1;
@@ -25,7 +33,7 @@ const BEGINS: usize = Event::SIZE;
 
 const HELD: usize = Event::SIZE + 8;
 
-// What bytes are as an image: whether they keep its length and its marks, and if so the schedule in them.
+// What bytes are as an image: whether they keep its length, its marks and the bits of its choices, and if so the schedule in them.
 pub struct Loaded {
     pub formed: bool,
     pub schedule: Schedule,
@@ -38,10 +46,19 @@ pub fn read(b: &[u8]) -> Loaded
     if b.len() != Schedule::SIZE {
         return no_image();
     }
-    if !reading::is_marked(b, Program::SIZE, Schedule::PROGRAMS, Schedule::PROGRAMS_AT) {
+    if !reading::is_marked(
+        b,
+        LAST_MARK,
+        Program::SIZE,
+        Schedule::PROGRAMS,
+        Schedule::PROGRAMS_AT,
+    ) {
         return no_image();
     }
-    if !reading::is_marked(b, Entry::SIZE, Schedule::EVENTS, FIRST_MARK) {
+    if !reading::is_marked(b, LAST_MARK, Entry::SIZE, Schedule::EVENTS, FIRST_MARK) {
+        return no_image();
+    }
+    if !reading::is_marked(b, LAST_CHOICE, Entry::SIZE, Schedule::EVENTS, FIRST_CHOICE) {
         return no_image();
     }
     Loaded {

@@ -3,7 +3,7 @@ ghost use mathlib.Core.Path.{_≡_};
 ghost use Prim.Native.Nat.{_+_, _≤_};
 ghost use lib.ListN.{length};
 ghost use Rattle.rules.specs.Records.{mostPrograms, mostEvents};
-ghost use Rattle.rules.specs.Bytes.{read, many, entrySize, entryAt};
+ghost use Rattle.rules.specs.Bytes.{read, many, entrySize, entryAt, choiceOf};
 ghost use Rattle.rules.specs.Image.{programSize, programsAt, entriesAt, imageSize, programFrom, loaded, marked};
 ghost use Rattle.image.specs.Exchange.{MarksInside};
 use crate::BEGINS;
@@ -11,6 +11,7 @@ use crate::COUNT;
 use crate::DEFAULTS;
 use crate::HELD;
 use crate::PRIMACY;
+use rules::Choice;
 use rules::Entry;
 use rules::Program;
 use rules::Schedule;
@@ -37,6 +38,17 @@ fn u64_at(b: &[u8], at: usize) -> u64
     octets::get(b, at, 8)
 }
 
+// Document 02, #102. The choice that is in a byte: whether the user is out, was in, was out, from the lowest bit.
+fn choice_of(b: u8) -> Choice
+    ensures { λ r. ⌜ r ≡ choiceOf b ⌝ }
+{
+    Choice {
+        out: b % 2 == 1,
+        was_in: b / 2 % 2 == 1,
+        was_out: b / 4 % 2 == 1,
+    }
+}
+
 // The event entry whose bytes stand at `at`.
 fn entry_at(b: &[u8], at: usize) -> Entry
     requires { ⌜ at + entrySize ≤ length (now b) ⌝ }
@@ -47,6 +59,7 @@ fn entry_at(b: &[u8], at: usize) -> Entry
         begins: u64_at(b, at + BEGINS),
         held: u32_at(b, at + HELD),
         cancelled: u8_at(b, at + Entry::MARK) == 1,
+        choice: choice_of(u8_at(b, at + Entry::CHOICE)),
     }
 }
 
@@ -62,15 +75,15 @@ fn program_at(b: &[u8], at: usize) -> Program
     }
 }
 
-// Whether n marks, k bytes from one to the next, are 0 or 1 each.
-pub(crate) fn is_marked(b: &[u8], k: usize, n: usize, at: usize) -> bool
+// Whether n bytes, k bytes from one to the next, are at most `most` each.
+pub(crate) fn is_marked(b: &[u8], most: u8, k: usize, n: usize, at: usize) -> bool
     requires { ⌜ MarksInside k n at (now b) ⌝ }
-    ensures { λ r. ⌜ r ≡ marked k n at (now (b .entry)) ⌝ }
+    ensures { λ r. ⌜ r ≡ marked most k n at (now (b .entry)) ⌝ }
 {
     let mut place = at;
     let mut left = n;
     while 0 < left {
-        if 1 < u8_at(b, place) {
+        if most < u8_at(b, place) {
             return false;
         }
         place += k;

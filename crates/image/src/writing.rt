@@ -3,15 +3,23 @@ ghost use mathlib.Core.Path.{_≡_};
 ghost use Prim.Native.Nat.{_+_, _≤_};
 ghost use lib.ListN.{length};
 ghost use Rattle.rules.specs.Lists.{overAt};
-ghost use Rattle.rules.specs.Bytes.{flat, entrySize, entryBytes};
+ghost use Rattle.rules.specs.Bytes.{flat, entrySize, entryBytes, choiceByte};
 ghost use Rattle.rules.specs.Image.{programSize, programsAt, entriesAt, imageSize, programBytes};
 use crate::BEGINS;
 use crate::DEFAULTS;
 use crate::HELD;
 use crate::PRIMACY;
+use rules::Choice;
 use rules::Entry;
 use rules::Program;
 use rules::Schedule;
+
+// Document 02, #102. The byte of a choice: whether the user is out, was in, was out, from the lowest bit.
+fn choice_byte(c: Choice) -> u64
+    ensures { λ r. ⌜ r ≡ choiceByte c ⌝ }
+{
+    c.out as u64 + (c.was_in as u64 * 2 + c.was_out as u64 * 4)
+}
 
 // The bytes of an event entry.
 pub(crate) fn put_entry(out: &mut [u8], at: usize, h: Entry)
@@ -23,6 +31,7 @@ pub(crate) fn put_entry(out: &mut [u8], at: usize, h: Entry)
     octets::put8(out, at + BEGINS, h.begins);
     octets::put(out, at + HELD, 4, h.held as u64);
     octets::put(out, at + Entry::MARK, 1, h.cancelled as u64);
+    octets::put(out, at + Entry::CHOICE, 1, choice_byte(h.choice));
 }
 
 // The bytes of a program entry.

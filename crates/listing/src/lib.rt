@@ -1,4 +1,4 @@
-// The sixth call: a listing of the held events by ascending id, by value and into a list that the host lends.
+// Calls, list: the held events by ascending id, by value and into a list that the host lends.
 ghost use mathlib.Core.Path.{_≡_};
 ghost use mathlib.Core.List.{[]};
 ghost use Rattle.rules.specs.Calls.{call, list};

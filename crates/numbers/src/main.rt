@@ -1,4 +1,4 @@
-// Each call on document 01's numbers: the worked example, bench marks, and every refusal of the five calls. What it writes is held to the file stdout.
+// Each call on documents 01's and 02's numbers: the worked example, bench marks, choices, and every refusal of the six calls. What it writes is held to the file stdout.
 use calls::Answered;
 use libc::STDOUT_FILENO;
 use rules::Answer;
@@ -119,7 +119,25 @@ fn bench() {
     read_clock(s, 9_000_000_000);
 }
 
-// Every refusal of the five calls but 10.
+// Document 02, #102: two events that end in one second; the one's user comes back, the other's leaves.
+fn choices() {
+    title(b"choices\n");
+    let mut s = Schedule::fresh();
+    s = show(calls::add_program(s, 0, 1, 1));
+    s = show(calls::deliver(s, event(1, 0, 1, 0, 5000, 10)));
+    s = show(calls::deliver(s, event(2, 0, 2, 0, 5000, 10)));
+    s = show(calls::choose(s, Id::of(1), true));
+    s = show(calls::choose(s, Id::of(1), true));
+    s = read_clock(s, 5003);
+    s = show(calls::ask(s, 0));
+    s = show(calls::choose(s, Id::of(2), true));
+    s = show(calls::choose(s, Id::of(1), false));
+    s = show(calls::ask(s, 0));
+    s = read_clock(s, 5010);
+    show(calls::choose(s, Id::of(1), true));
+}
+
+// Every refusal of the six calls but 10.
 fn refusals() {
     title(b"refusals\n");
     let mut s = Schedule::fresh();
@@ -164,6 +182,7 @@ fn full() {
 fn main() {
     example();
     bench();
+    choices();
     refusals();
     full();
 }

@@ -20,7 +20,7 @@ use Rattle.rules.specs.Holding.{holdingAt, withHolding}
 use Rattle.rules.specs.Moments.{lasts, entriesFrom, second, advance}
 use Rattle.rules.specs.Sound.{sound}
 use Rattle.rules.specs.Refusals.{find}
-use Rattle.rules.specs.Calls.{program, event, cancellation, question, Call, bare, setClock, list, entryId, entry, mark, receive, programOf, does, refusal, accepts, accepted, refused, call, run}
+use Rattle.rules.specs.Calls.{program, event, cancellation, decision, question, Call, bare, setClock, list, entryId, entry, mark, decide, receive, programOf, does, refusal, accepts, accepted, refused, call, run}
 use Rattle.rules.specs.Arrival.{after}
 use Rattle.rules.specs.Clauses.{ImageKept}
 use Rattle.rules.proofs.ListLaws.{in-keep, all-map, in-insert, in-set, in-append, in-take, in-replicate}
@@ -86,6 +86,7 @@ module _ (s : State) (f : FitsState s) where
   }
   fits-does (bare (event e)) g = fits-receive e g (find (idOf e) (s .entries))
   fits-does (bare (cancellation i)) g = record { programs = f .programs; events = all-map (λ h. FitsEvent (h .event)) (mark i) (s .entries) (f .events) }
+  fits-does (bare (decision i out)) g = record { programs = f .programs; events = all-map (λ h. FitsEvent (h .event)) (decide i out) (s .entries) (f .events) }
   fits-does (setClock t b) g = fits-advance (t - s .clock) s f
   fits-does (bare (question c)) g = f
   fits-does (list r) g = f

@@ -11,7 +11,7 @@ use Rattle.rules.specs.declared.Schedule.{Schedule}
 use Rattle.rules.specs.Lists.{All}
 use Rattle.rules.specs.Records.{view, fresh, pad}
 use Rattle.rules.specs.Sound.{sound}
-use Rattle.rules.specs.Calls.{program, event, cancellation, question, Call, bare, setClock, ask, list, does, accepts, accepted, refused, call, run}
+use Rattle.rules.specs.Calls.{program, event, cancellation, decision, question, Call, bare, setClock, ask, list, does, accepts, accepted, refused, call, run}
 use Rattle.rules.specs.Arrival.{after}
 use Rattle.rules.specs.Image.{imageSize, image, loaded, formed, imaged}
 use Rattle.rules.specs.Face.{Operation, asCall, idTooLong, face, faceFresh}
@@ -29,6 +29,7 @@ unfolding call does
 asked s e (bare (program n p d)) q = both false q refl
 asked s e (bare (event v)) q = both false q refl
 asked s e (bare (cancellation i)) q = both false q refl
+asked s e (bare (decision i out)) q = both false q refl
 asked s e (bare (question c)) q = go (accepts s (ask c))
   where
     go : (b : Bool) → cond b (accepted (does (view s) (ask c))) (refused s (ask c)) .state ≡ s

@@ -8,7 +8,7 @@ use Rattle.rules.specs.declared.Event.{Event}
 use Rattle.rules.specs.declared.Schedule.{Schedule}
 use Rattle.rules.specs.Lists.{All}
 use Rattle.rules.specs.Records.{idLimit, idOf}
-use Rattle.rules.specs.Calls.{program, event, cancellation, question, Call, bare, setClock, list, call, run, joined}
+use Rattle.rules.specs.Calls.{program, event, cancellation, decision, question, Call, bare, setClock, list, call, run, joined}
 use Rattle.rules.specs.Arrival.{after}
 use Rattle.rules.specs.Image.{imageSize, image, loaded}
 use Rattle.rules.specs.Face.{Operation, asCall, idTooLong, shown, negative, lentAfter, face, faceFresh}
@@ -32,6 +32,7 @@ abbrev pub Fits : Call → Type 0
 Fits (bare (program number primacy defaults)) = (number < 2 ^ 8) × (primacy < 2 ^ 8) × (defaults < 2 ^ 32)
 Fits (bare (event e)) = FieldsFit e
 Fits (bare (cancellation id)) = id < idLimit
+Fits (bare (decision id out)) = id < idLimit
 Fits (bare (question control)) = control < 2 ^ 8
 Fits (setClock reading buffer) = reading < 2 ^ 64
 Fits (list records) = Unit {0}

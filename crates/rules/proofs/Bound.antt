@@ -15,7 +15,7 @@ use Rattle.rules.specs.declared.Schedule.{Schedule}
 use Rattle.rules.specs.Lists.{keep}
 use Rattle.rules.specs.Records.{State, view, mostRows}
 use Rattle.rules.specs.Holding.{claim, Holding, holdingAt, withHolding, endOf}
-use Rattle.rules.specs.Rows.{codeAt, rowOf, rowsWith, rowsFrom, rowsAt, ending, superseded, starting}
+use Rattle.rules.specs.Rows.{endCode, codeAt, rowOf, rowsWith, rowsFrom, rowsAt, ending, superseded, starting}
 use Rattle.rules.specs.Moments.{lasts, entriesFrom, Moved, second, advance, passed}
 use Rattle.rules.specs.Sound.{sound}
 use Rattle.rules.specs.Schedules.{Timed, goneBy, holding, seen}
@@ -76,10 +76,10 @@ module _ (t : ℕ) (h : Entry) (now : Holding) (nothing : claim (suc t) h ≡ 0 
       ended-none e = nothing (claim-ended (suc t) h (omega arith))
 
       go : (old new : Bool) → eqb (h .held) 0 ≡ old → eqb (now .held) 0 ≡ new
-          → any (cond dead 0 (cond (eqb (endOf h) (suc t)) (cond old 0 3) (cond (old || not new) 0 7))) + cond new 0 1 ≤ cond old 0 1
+          → any (cond dead 0 (cond (eqb (endOf h) (suc t)) (cond old 0 (endCode (h .choice))) (cond (old || not new) 0 7))) + cond new 0 1 ≤ cond old 0 1
       go true true p q = simp cond-same (omega arith)
       go true false p q = absurd (eqb-false (now .held) 0 q (held-none (eqb-true (h .held) 0 p)))
-      go false true p q = omega (arith, any-one (cond dead 0 (cond (eqb (endOf h) (suc t)) 3 7)))
+      go false true p q = omega (arith, any-one (cond dead 0 (cond (eqb (endOf h) (suc t)) (endCode (h .choice)) 7)))
       go false false p q = rw (ne-eqb (endOf h) (suc t) (λ e. eqb-false (now .held) 0 q (ended-none e)), cond-same) (omega arith)
 
   step : Fewer
@@ -124,13 +124,17 @@ abbrev kinds : ℕ → ℕ
 kinds code = cond (ending code) 1 0 + (cond (superseded code) 1 0 + cond (starting code) 1 0)
 
 one-kind : (code : ℕ) → kinds code ≤ any code
-one-kind code = go (ending code) (superseded code) (starting code) refl refl refl
+one-kind code = go (superseded code) (starting code) (eqb code 0) refl refl refl
   where
-    go : (a b c : Bool) → ending code ≡ a → superseded code ≡ b → starting code ≡ c → kinds code ≤ any code
-    go true b c p q r = rw (eqb-true code 3 p) (omega arith)
-    go false true c p q r = rw (eqb-true code 7 q) (omega arith)
-    go false false true p q r = rw (eqb-true code 2 r) (omega arith)
-    go false false false p q r = rw (p, q, r) (omega arith)
+    go : (a b c : Bool) → superseded code ≡ a → starting code ≡ b → eqb code 0 ≡ c → kinds code ≤ any code
+    go true b c p q r = rw (eqb-true code 7 p) (omega arith)
+    go false true c p q r = rw (eqb-true code 2 q) (omega arith)
+    go false false true p q r = rw (eqb-true code 0 r) (omega arith)
+    go false false false p q r = rw (p, q, r) (one (ending code))
+      where
+        one : (d : Bool) → cond d 1 0 + (0 + 0) ≤ 1
+        one true = omega arith
+        one false = omega arith
 
 module _ (t : ℕ) (now : Entry → Holding) where
   length-from : (hs : List Entry)

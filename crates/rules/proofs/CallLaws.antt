@@ -18,8 +18,8 @@ use Rattle.rules.specs.Records.{State, idOf, lastClock, programAt, view,
 use Rattle.rules.specs.Moments.{advance, passed}
 use Rattle.rules.specs.Bytes.{bytes, flat, rowSize}
 use Rattle.rules.specs.Sound.{malformed, sameEvent, sound}
-use Rattle.rules.specs.Refusals.{Check, firstOf, find, programChecks, eventChecks, cancelChecks, clockChecks, askChecks, listChecks}
-use Rattle.rules.specs.Calls.{program, event, cancellation, question, Call, bare, deliver, cancel, setClock, list, code, count, entryId, withEntries, mark, cancelCode, does, checks, refusal, accepts, accepted, refused, lentBytes, lentList, call}
+use Rattle.rules.specs.Refusals.{Check, firstOf, find, programChecks, eventChecks, heldChecks, clockChecks, askChecks, listChecks}
+use Rattle.rules.specs.Calls.{program, event, cancellation, decision, question, Call, bare, deliver, cancel, setClock, list, code, count, entryId, withEntries, mark, cancelCode, does, checks, refusal, accepts, accepted, refused, lentBytes, lentList, call}
 use Rattle.rules.specs.Clauses.{Fit, CallClauses}
 use Rattle.rules.proofs.Tests.{each-true, first-not}
 use Rattle.rules.proofs.SoundState.{Sound, ById, same-event, view-pad, sound-pad, sound-view, pad-view, rules}
@@ -69,10 +69,11 @@ not-given (c ∷ cs) e z = let r = each-true (not (eqb (c .number) 2)) _ e in go
     go false f ih z = ih z
 
 pub not-two : (s : State) (c : Call) → firstOf (checks s c) ≡ 2 → ⊥
-unfolding checks programChecks eventChecks cancelChecks clockChecks askChecks listChecks
+unfolding checks programChecks eventChecks heldChecks clockChecks askChecks listChecks
 not-two s (bare (program n p d)) e = not-given (programChecks s n p) refl e
 not-two s (bare (event v)) e = not-given (eventChecks s v (find (idOf v) (s .entries))) refl e
-not-two s (bare (cancellation i)) e = not-given (cancelChecks (find i (s .entries))) refl e
+not-two s (bare (cancellation i)) e = not-given (heldChecks (find i (s .entries))) refl e
+not-two s (bare (decision i out)) e = not-given (heldChecks (find i (s .entries))) refl e
 not-two s (bare (question k)) e = not-given (askChecks k) refl e
 not-two s (setClock t b) e = not-given (clockChecks (s .clock) t (length (passed s t .rows)) (length b)) refl e
 not-two s (list r) e = not-given (listChecks (length (s .entries)) (length r)) refl e
@@ -83,7 +84,7 @@ unfolding call refusal
 done s e c z = rw (e, z)
 
 -- a held event is found under its id
-found : (hs : List Entry) → Pairwise ById hs → (h : Entry) → In h hs → find (entryId h) hs ≡ some h
+pub found : (hs : List Entry) → Pairwise ById hs → (h : Entry) → In h hs → find (entryId h) hs ≡ some h
 unfolding find
 found (x ∷ xs) p h (inl q) = rw (q, eq-eqb (entryId x) (entryId x) refl)
 found (x ∷ xs) p h (inr m) = rw (ne-eqb (entryId x) (entryId h) (λ e. let l = p .0 h m in omega arith)) (found xs (p .1) h m)

@@ -1,16 +1,32 @@
--- When an entry gives which code: 2, 3 and 7 each in a case of their own, and 0 in every other.
-use mathlib.Core.Path.{_≡_, refl, sym, _∙_}
+-- When an entry gives which code: 2, 7 and those of an end each in a case of their own, and 0 in every other.
+use mathlib.Core.Path.{_≡_, refl, sym, ap, _∙_}
 use mathlib.Core.Logic.{_⊎_, inl, inr}
 use Prim.Native.Nat.{ℕ, _<_, _≤_}
 use mathlib.Core.Bool.{Bool, true, false, cond, not, _||_, or-true}
 use native.Mathlib.Omega.{arith}
 use lib.Dec.{ltb, eqb}
 use borrow.Author.Tests.{ltb-true, ltb-false, le-ltb, eqb-true, eqb-false, eq-eqb, ne-eqb}
+use Rattle.rules.specs.declared.Choice.{Choice}
 use Rattle.rules.specs.declared.Entry.{Entry}
 use Rattle.rules.specs.Holding.{Holding, endOf}
-use Rattle.rules.specs.Rows.{codeAt}
-use Rattle.rules.proofs.Tests.{cond-same}
+use Rattle.rules.specs.Rows.{endCode, codeAt, ending}
+use Rattle.rules.proofs.Tests.{both, cond-same}
 use Rattle.rules.proofs.Claims.{code-ended, code-cancelled, code-early}
+
+-- whatever the choices were, an end gives a code of its kind
+pub end-code : (c : Choice) → ending (endCode c) ≡ true
+unfolding endCode
+end-code c = go (c .out) (c .«was_in») (c .«was_out»)
+  where
+    go : (o i w : Bool) → ending (cond (not w) 3 (cond (not i) 10 (cond o 8 9))) ≡ true
+    go o i false = refl
+    go o false true = refl
+    go true true true = refl
+    go false true true = refl
+
+-- so it gives no other
+not-end-code : (c : Choice) (n : ℕ) → ending n ≡ false → endCode c ≡ n → ⊥
+not-end-code c n f e = both (ending n) (sym (ap ending e) ∙ end-code c) f
 
 module _ (t : ℕ) (h : Entry) (now : Holding) where
   -- it starts, and holds something
@@ -49,7 +65,7 @@ module _ (t : ℕ) (h : Entry) (now : Holding) where
         ne-eqb (now .held) 0 (v .holds),
       )
 
-  pub code-ends : Ends → codeAt t h now ≡ 3
+  pub code-ends : Ends → codeAt t h now ≡ endCode (h .choice)
   unfolding codeAt
   code-ends v =
       simp (
@@ -96,7 +112,7 @@ module _ (t : ℕ) (h : Entry) (now : Holding) where
   data GivenCode : Type 0 where
     silent : codeAt t h now ≡ 0 → GivenCode
     starts : codeAt t h now ≡ 2 → Starts → GivenCode
-    ends : codeAt t h now ≡ 3 → Ends → GivenCode
+    ends : codeAt t h now ≡ endCode (h .choice) → Ends → GivenCode
     loses : codeAt t h now ≡ 7 → Loses → GivenCode
 
   told : GivenCode
@@ -140,17 +156,17 @@ module _ (t : ℕ) (h : Entry) (now : Holding) where
       go : GivenCode → Starts
       go (silent z) = absurd (eqb-false 0 2 refl (sym z ∙ e))
       go (starts z v) = v
-      go (ends z v) = absurd (eqb-false 3 2 refl (sym z ∙ e))
+      go (ends z v) = absurd (not-end-code (h .choice) 2 refl (sym z ∙ e))
       go (loses z v) = absurd (eqb-false 7 2 refl (sym z ∙ e))
 
-  pub is-end : codeAt t h now ≡ 3 → Ends
+  pub is-end : ending (codeAt t h now) ≡ true → Ends
   is-end e = go told
     where
       go : GivenCode → Ends
-      go (silent z) = absurd (eqb-false 0 3 refl (sym z ∙ e))
-      go (starts z v) = absurd (eqb-false 2 3 refl (sym z ∙ e))
+      go (silent z) = both (ending 0) (sym (ap ending z) ∙ e) refl
+      go (starts z v) = both (ending 2) (sym (ap ending z) ∙ e) refl
       go (ends z v) = v
-      go (loses z v) = absurd (eqb-false 7 3 refl (sym z ∙ e))
+      go (loses z v) = both (ending 7) (sym (ap ending z) ∙ e) refl
 
   pub is-loss : codeAt t h now ≡ 7 → Loses
   is-loss e = go told
@@ -158,14 +174,14 @@ module _ (t : ℕ) (h : Entry) (now : Holding) where
       go : GivenCode → Loses
       go (silent z) = absurd (eqb-false 0 7 refl (sym z ∙ e))
       go (starts z v) = absurd (eqb-false 2 7 refl (sym z ∙ e))
-      go (ends z v) = absurd (eqb-false 3 7 refl (sym z ∙ e))
+      go (ends z v) = absurd (not-end-code (h .choice) 7 refl (sym z ∙ e))
       go (loses z v) = v
 
-  pub one-of-four : (codeAt t h now ≡ 0) ⊎ ((codeAt t h now ≡ 2) ⊎ ((codeAt t h now ≡ 3) ⊎ (codeAt t h now ≡ 7)))
+  pub one-of-four : (codeAt t h now ≡ 0) ⊎ ((codeAt t h now ≡ 2) ⊎ ((ending (codeAt t h now) ≡ true) ⊎ (codeAt t h now ≡ 7)))
   one-of-four = go told
     where
-      go : GivenCode → (codeAt t h now ≡ 0) ⊎ ((codeAt t h now ≡ 2) ⊎ ((codeAt t h now ≡ 3) ⊎ (codeAt t h now ≡ 7)))
+      go : GivenCode → (codeAt t h now ≡ 0) ⊎ ((codeAt t h now ≡ 2) ⊎ ((ending (codeAt t h now) ≡ true) ⊎ (codeAt t h now ≡ 7)))
       go (silent z) = inl z
       go (starts z v) = inr (inl z)
-      go (ends z v) = inr (inr (inl z))
+      go (ends z v) = inr (inr (inl (ap ending z ∙ end-code (h .choice))))
       go (loses z v) = inr (inr (inr z))

@@ -1,19 +1,23 @@
 -- Events and entries, and their bytes, are inverse: each field is a number or a mark of its own width.
-use mathlib.Core.Path.{_≡_, refl}
+use mathlib.Core.Path.{_≡_, refl, ap, ap₂, _∙_}
 use Prim.Native.Nat.{ℕ, zero, suc, _+_, _*_, _^_, _<_, _≤_}
-use mathlib.Core.Bool.{Bool, true, false, cond}
-use mathlib.Core.List.{List, _++_, append-assoc}
+use mathlib.Core.Bool.{Bool, true, false, cond, _&&_}
+use mathlib.Core.List.{List, [], _∷_, _++_, append-assoc}
 use native.Mathlib.Omega.{arith}
 use borrow.Author.Needs.{needs}
-use lib.Dec.{eqb}
+use lib.Dec.{leb, eqb}
+use borrow.Author.Tests.{leb-true}
 use lib.ListN.{length, drop}
 use Rattle.rules.specs.declared.Event.{Event}
 use Rattle.rules.specs.declared.Entry.{Entry}
+use Rattle.rules.specs.declared.Choice.{Choice}
 use Rattle.rules.specs.declared.Record.{Record}
-use Rattle.rules.specs.Records.{idSize, idLimit, idOf, noEvent, noEntry}
-use Rattle.rules.specs.Bytes.{big, read, eventAt, eventBytes, entryAt, entryBytes, recordBytes, flag, eventSize, entrySize, markAt, recordSize}
+use Rattle.rules.specs.Records.{idSize, idLimit, idOf, has, noEvent, noEntry}
+use Rattle.rules.specs.Bytes.{big, read, eventAt, eventBytes, entryAt, entryBytes, recordBytes, flag, choiceByte, choiceOf, eventSize, entrySize, markAt, choiceAt, recordSize}
+use Rattle.rules.specs.Image.{marked}
+use Rattle.rules.proofs.Tests.{each-true}
 use Rattle.rules.proofs.IdLaws.{number-id, zero-id, id-number}
-use Rattle.rules.proofs.Numbers.{Bytes, read-below, read-big, read-drop, piece, Inverse}
+use Rattle.rules.proofs.Numbers.{Bytes, read-below, read-big, read-drop, piece, Inverse, allGood}
 
 -- each field fits its width
 pub record FitsEvent (e : Event) : Type 0 where
@@ -68,16 +72,57 @@ pub flag-read : (b : Bool) → eqb (0 * 256 + cond b 1 0) 1 ≡ b
 flag-read true = refl
 flag-read false = refl
 
-pub flag-small : (b : Bool) → 0 * 256 + cond b 1 0 ≤ 1
-flag-small true = omega arith
-flag-small false = omega arith
+pub flag-small : (b : Bool) → leb (0 * 256 + cond b 1 0) 1 ≡ true
+flag-small true = refl
+flag-small false = refl
+
+-- a choice's byte is that choice, and has no bit above 2
+pub choice-read : (c : Choice) → choiceOf (0 * 256 + choiceByte c) ≡ c
+unfolding has
+choice-read c = go (c .out) (c .«was_in») (c .«was_out»)
+  where
+    go : (a b d : Bool) → choiceOf (0 * 256 + (cond a 1 0 + (cond b 2 0 + cond d 4 0))) ≡ record { out = a; «was_in» = b; «was_out» = d }
+    go true true true = refl
+    go true true false = refl
+    go true false true = refl
+    go true false false = refl
+    go false true true = refl
+    go false true false = refl
+    go false false true = refl
+    go false false false = refl
+
+pub choice-small : (c : Choice) → leb (0 * 256 + choiceByte c) 7 ≡ true
+choice-small c = go (c .out) (c .«was_in») (c .«was_out»)
+  where
+    go : (a b d : Bool) → leb (0 * 256 + (cond a 1 0 + (cond b 2 0 + cond d 4 0))) 7 ≡ true
+    go true true true = refl
+    go true true false = refl
+    go true false true = refl
+    go true false false = refl
+    go false true true = refl
+    go false true false = refl
+    go false false true = refl
+    go false false false = refl
+
+-- a byte with no bit above 2 is that of its choice
+pub choice-byte : (x : ℕ) → x ≤ 7 → choiceByte (choiceOf x) ∷ [] ≡ big 1 x
+unfolding has big
+choice-byte zero h = refl
+choice-byte (suc zero) h = refl
+choice-byte (suc (suc zero)) h = refl
+choice-byte (suc (suc (suc zero))) h = refl
+choice-byte (suc (suc (suc (suc zero)))) h = refl
+choice-byte (suc (suc (suc (suc (suc zero))))) h = refl
+choice-byte (suc (suc (suc (suc (suc (suc zero)))))) h = refl
+choice-byte (suc (suc (suc (suc (suc (suc (suc zero))))))) h = refl
+choice-byte (suc (suc (suc (suc (suc (suc (suc (suc x)))))))) h = absurd (omega arith)
 
 -- an entry's bytes are that entry, whatever follows
 pub entry-of-bytes : (h : Entry) → FitsEntry h → (r : List ℕ) → entryAt 0 (entryBytes h ++ r) ≡ h
 unfolding entryAt entryBytes eventBytes read big
 entry-of-bytes h f r =
-    let event = event-of-bytes (h .event) (f .event) (big 8 (h .begins) ++ (big 4 (h .held) ++ (flag (h .cancelled) ++ r))) in
-    rw (event, read-big 8 (h .begins) (f .begins), read-big 4 (h .held) (f .held), flag-read (h .cancelled))
+    let event = event-of-bytes (h .event) (f .event) (big 8 (h .begins) ++ (big 4 (h .held) ++ (flag (h .cancelled) ++ (choiceByte (h .choice) ∷ r)))) in
+    rw (event, read-big 8 (h .begins) (f .begins), read-big 4 (h .held) (f .held), flag-read (h .cancelled), choice-read (h .choice))
 
 -- an event, and an entry, further on
 pub event-drop : (at : ℕ) (l : List ℕ) → eventAt 0 (drop at l) ≡ eventAt at l
@@ -94,6 +139,10 @@ unfolding big
 flag-byte zero h = refl
 flag-byte (suc zero) h = refl
 flag-byte (suc (suc x)) h = absurd (omega arith)
+
+-- an event entry's mark is 0 or 1, and its choice has no bit above 2
+abbrev pub entryMarks : ℕ → List ℕ → Bool
+entryMarks at l = leb (read 1 (at + 45) l) 1 && leb (read 1 (at + 46) l) 7
 
 module _ (l : List ℕ) (b : Bytes l) where
   -- bytes are those of the event that they are
@@ -114,13 +163,39 @@ module _ (l : List ℕ) (b : Bytes l) where
         piece l b idSize 0 (omega arith),
       ))
 
-  -- and of the entry, if the mark is 0 or 1
-  pub entry-piece : entrySize ≤ length l → read 1 markAt l ≤ 1 → entryBytes (entryAt 0 l) ++ drop entrySize l ≡ l
+  -- and of the entry, if the mark is 0 or 1 and the choice has no bit above 2
+  pub entry-piece : entrySize ≤ length l → entryMarks 0 l ≡ true → entryBytes (entryAt 0 l) ++ drop entrySize l ≡ l
   unfolding entryAt entryBytes
   entry-piece h m =
-      simp (append-assoc, flag-byte (read 1 markAt l) m)
-      (rw (piece l b 1 markAt (omega arith), piece l b 4 (eventSize + 8) (omega arith), piece l b 8 eventSize (omega arith), event-piece (omega arith)))
+      let r = each-true (leb (read 1 markAt l) 1) (leb (read 1 choiceAt l) 7) m in
+      let last : flag (eqb (read 1 markAt l) 1) ++ ((choiceByte (choiceOf (read 1 choiceAt l)) ∷ []) ++ drop entrySize l) ≡ drop markAt l =
+      ap₂ (λ (x y : List ℕ). x ++ (y ++ drop entrySize l)) (flag-byte (read 1 markAt l) (leb-true (read 1 markAt l) 1 (r .0))) (choice-byte (read 1 choiceAt l) (leb-true (read 1 choiceAt l) 7 (r .1)))
+      ∙ rw (piece l b 1 choiceAt (omega arith)) (piece l b 1 markAt (omega arith)) in
+      simp append-assoc
+      (rw (last, piece l b 4 (eventSize + 8) (omega arith), piece l b 8 eventSize (omega arith), event-piece (omega arith)))
 
-pub entry-inverse : Inverse FitsEntry entryAt entryBytes entrySize markAt
+-- so all of them are
+mixed : (a b c d : Bool) → ((a && b) && (c && d)) ≡ ((a && c) && (b && d))
+mixed true true c d = refl
+mixed true false true d = refl
+mixed true false false d = refl
+mixed false b c d = refl
+
+pub entries-marked : (k n at : ℕ) (l : List ℕ) → allGood entryMarks k n at l ≡ (marked 1 k n (at + markAt) l && marked 7 k n (at + choiceAt) l)
+unfolding allGood marked
+entries-marked k zero at l = refl
+entries-marked k (suc n) at l =
+    let y : at + k + markAt ≡ at + markAt + k = omega arith in
+    let z : at + k + choiceAt ≡ at + choiceAt + k = omega arith in
+    ap (λ b. entryMarks at l && b) (rw (y, z) at (entries-marked k n (at + k) l))
+    ∙ mixed (leb (read 1 (at + markAt) l) 1) (leb (read 1 (at + choiceAt) l) 7) (marked 1 k n (at + markAt + k) l) (marked 7 k n (at + choiceAt + k) l)
+
+entry-marks : (h : Entry) (r : List ℕ) → entryMarks 0 (entryBytes h ++ r) ≡ true
 unfolding entryBytes eventBytes read big
-entry-inverse = record { size = entry-size; marks = λ h r. flag-small (h .cancelled); reads = entry-of-bytes; puts = entry-piece; moves = entry-drop }
+entry-marks h r = ap₂ _&&_ (flag-small (h .cancelled)) (choice-small (h .choice))
+
+marks-drop : (at : ℕ) (l : List ℕ) → entryMarks 0 (drop at l) ≡ entryMarks at l
+marks-drop at l = simp read-drop
+
+pub entry-inverse : Inverse FitsEntry entryAt entryBytes 47 entryMarks
+entry-inverse = record { size = entry-size; marks = entry-marks; reads = entry-of-bytes; puts = entry-piece; moves = entry-drop; good-moves = marks-drop }

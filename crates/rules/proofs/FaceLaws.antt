@@ -11,10 +11,10 @@ use Rattle.rules.specs.declared.Answer.{Answer}
 use Rattle.rules.specs.declared.Entry.{Entry}
 use Rattle.rules.specs.declared.Schedule.{Schedule}
 use Rattle.rules.specs.declared.Answer.the-variants.{Refused, Code, Count, Holder, Default, Nobody}
-use Rattle.rules.specs.Records.{State, idFrom, idOf, fresh, view, pad}
+use Rattle.rules.specs.Records.{State, idFrom, idOf, differ, fresh, view, pad}
 use Rattle.rules.specs.Image.{imageSize, image, loaded, imaged}
 use Rattle.rules.specs.Refusals.{find}
-use Rattle.rules.specs.Calls.{program, event, cancellation, question, Call, bare, setClock, list, received, cancelCode, does, accepts, accepted, refused, Governor, byEvent, byProgram, byNone, Value, nothing, code, count, governor, numberOf, valueOf, call}
+use Rattle.rules.specs.Calls.{program, event, cancellation, decision, question, Call, bare, setClock, list, received, cancelCode, choiceCode, does, accepts, accepted, refused, Governor, byEvent, byProgram, byNone, Value, nothing, code, count, governor, numberOf, valueOf, call}
 use Rattle.rules.specs.Face.{Operation, asCall, answerBytes, idTooLong, shown, negative, lentAfter, face, faceFresh}
 use Rattle.rules.specs.Clauses.{AnswerClause, FaceClauses, ImageKept}
 use Rattle.rules.proofs.Tests.{both}
@@ -54,6 +54,7 @@ abbrev pub isQuestion : Call → Bool
 isQuestion (bare (program n p d)) = false
 isQuestion (bare (event e)) = false
 isQuestion (bare (cancellation i)) = false
+isQuestion (bare (decision i out)) = false
 isQuestion (bare (question c)) = true
 isQuestion (setClock t b) = false
 isQuestion (list r) = false
@@ -70,11 +71,21 @@ cancelled-no-id (some h) = go (h .cancelled)
     go true = refl
     go false = refl
 
+choice-no-id : (out : Bool) (o : Option Entry) → answerBytes (choiceCode out o) ≡ []
+choice-no-id out none = refl
+choice-no-id out (some h) = go (differ (h .choice .out) out) out
+  where
+    go : (b out : Bool) → answerBytes (cond b (cond out (code 4) (code 5)) (code 0)) ≡ []
+    go true true = refl
+    go true false = refl
+    go false out = refl
+
 does-no-id : (s : State) (c : Call) → isQuestion c ≡ false → answerBytes (does s c .value) ≡ []
 unfolding does
 does-no-id s (bare (program n p d)) q = refl
 does-no-id s (bare (event e)) q = received-no-id (find (idOf e) (s .entries))
 does-no-id s (bare (cancellation i)) q = cancelled-no-id (find i (s .entries))
+does-no-id s (bare (decision i out)) q = choice-no-id out (find i (s .entries))
 does-no-id s (bare (question c)) q = both false (sym q) refl
 does-no-id s (setClock t b) q = refl
 does-no-id s (list r) q = refl

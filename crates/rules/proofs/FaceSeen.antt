@@ -10,11 +10,11 @@ use Rattle.rules.specs.Lists.{each, All}
 use Rattle.rules.specs.Records.{idNumber, idFrom, State, usable, has, cut, join, fresh, pad}
 use Rattle.rules.specs.Period.{drawnStart, effectiveEnd, effectiveStart, earliestStart}
 use Rattle.rules.specs.Holding.{key, better, claim, taken, heldAt, holdingAt}
-use Rattle.rules.specs.Rows.{codeAt, rowsWith, rowsFrom, rowsAt}
+use Rattle.rules.specs.Rows.{endCode, codeAt, rowsWith, rowsFrom, rowsAt}
 use Rattle.rules.specs.Moments.{entriesFrom, second, advance}
 use Rattle.rules.specs.Bytes.{big, read, flat, many, rowBytes, eventAt, eventBytes, entryBytes, entryAt, recordBytes}
 use Rattle.rules.specs.Sound.{outOfRange, malformed, sameEvent, whole, withinLimits, sound}
-use Rattle.rules.specs.Refusals.{_if_, firstOf, find, late, programChecks, eventChecks, cancelChecks, clockChecks, askChecks, listChecks}
+use Rattle.rules.specs.Refusals.{_if_, firstOf, find, late, programChecks, eventChecks, heldChecks, clockChecks, askChecks, listChecks}
 use Rattle.rules.specs.Calls.{Call, Outcome, call, run, bestDefault, holderIn, answerFor, does, checks}
 use Rattle.rules.specs.Image.{programBytes, programFrom, image, loaded, marked, formed, imaged}
 use Rattle.rules.specs.Face.{Operation, asCall, idTooLong, shown, negative, lentAfter, FaceOutcome, face, faceFresh}
@@ -66,7 +66,7 @@ abbrev shows : List ℕ → FaceCase → Bool
 shows l c = eqb (quickFace l c .returned) (c .returned) && same (quickFace l c .lent) (c .after)
 
 faces-evaluate : (l : List ℕ) → each (shows l) faceTable ≡ true
-unfolding faceTable quickRun quickCall quickChecks quickDoes jumps nextMoment idleFor advance second entriesFrom rowsAt rowsFrom rowsWith codeAt holdingAt heldAt taken claim better key drawnStart effectiveEnd effectiveStart earliestStart usable has cut join big flat rowBytes eventBytes entryBytes recordBytes outOfRange malformed sameEvent find late programChecks eventChecks cancelChecks clockChecks askChecks listChecks bestDefault holderIn answerFor does checks idNumber idFrom
+unfolding faceTable quickRun quickCall quickChecks quickDoes jumps nextMoment idleFor advance second entriesFrom rowsAt rowsFrom rowsWith endCode codeAt holdingAt heldAt taken claim better key drawnStart effectiveEnd effectiveStart earliestStart usable has cut join big flat rowBytes eventBytes entryBytes recordBytes outOfRange malformed sameEvent find late programChecks eventChecks heldChecks clockChecks askChecks listChecks bestDefault holderIn answerFor does checks idNumber idFrom
 faces-evaluate l = refl
 
 pub faces-hold : All FaceHolds faceTable

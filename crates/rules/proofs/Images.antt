@@ -1,7 +1,7 @@
 -- A schedule and its image are inverse: the clock, the count, the programs and the entries stand one after the other, each of its own length.
 use mathlib.Core.Path.{_≡_, refl, sym, ap, _∙_}
-use Prim.Native.Nat.{ℕ, _+_, _*_, _^_, _<_, _≤_}
-use mathlib.Core.Bool.{true, and-eq-true-iff}
+use Prim.Native.Nat.{ℕ, zero, suc, _+_, _*_, _^_, _<_, _≤_}
+use mathlib.Core.Bool.{Bool, true, _&&_, and-eq-true-iff}
 use mathlib.Core.List.{List, [], _++_, append-assoc, append-nil}
 use native.Mathlib.Omega.{arith}
 use borrow.Author.Needs.{needs}
@@ -13,13 +13,13 @@ use Rattle.rules.specs.declared.Program.{Program}
 use Rattle.rules.specs.declared.Schedule.{Schedule}
 use Rattle.rules.specs.Lists.{All}
 use Rattle.rules.specs.Records.{lastClock, mostEvents, noProgram, noEntry, fresh, pad, mostPrograms}
-use Rattle.rules.specs.Bytes.{big, read, flat, many, entryBytes, entryAt, entrySize, markAt}
+use Rattle.rules.specs.Bytes.{big, read, flat, many, entryBytes, entryAt, entrySize, markAt, choiceAt}
 use Rattle.rules.specs.Image.{programBytes, programFrom, image, loaded, marked, formed, imaged, imageSize, programSize, programsAt, entriesAt}
 use Rattle.rules.specs.Sound.{whole, withinLimits, sound}
 use Rattle.rules.specs.Clauses.{ImageKept}
 use Rattle.rules.proofs.ListLaws.{in-replicate}
-use Rattle.rules.proofs.Numbers.{Bytes, read-big, read-drop, piece, flat-length, Inverse, many-of-flat, marked-of-flat, flat-of-many}
-use Rattle.rules.proofs.Entries.{FitsEntry, none-fits, flag-read, flag-small, flag-byte, entry-inverse}
+use Rattle.rules.proofs.Numbers.{Bytes, read-big, read-drop, piece, flat-length, Inverse, many-of-flat, allGood, good-of-flat, flat-of-many}
+use Rattle.rules.proofs.Entries.{FitsEntry, none-fits, flag-read, flag-small, flag-byte, entries-marked, entry-inverse}
 
 pub record FitsProgram (p : Program) : Type 0 where
   pub primacy : p .primacy < 256 ^ 1
@@ -37,17 +37,29 @@ pub program-drop : (at : ℕ) (l : List ℕ) → programFrom 0 (drop at l) ≡ p
 unfolding programFrom
 program-drop at l = let z : at + 0 ≡ at = omega arith in simp (read-drop, z)
 
-pub program-piece : (l : List ℕ) → Bytes l → 6 ≤ length l → read 1 0 l ≤ 1 → programBytes (programFrom 0 l) ++ drop 6 l ≡ l
+-- a program entry's mark is 0 or 1
+abbrev programMarks : ℕ → List ℕ → Bool
+programMarks at l = leb (read 1 at l) 1
+
+programs-marked : (k n at : ℕ) (l : List ℕ) → allGood programMarks k n at l ≡ marked 1 k n at l
+unfolding allGood marked
+programs-marked k zero at l = refl
+programs-marked k (suc n) at l = ap (λ b. programMarks at l && b) (programs-marked k n (at + k) l)
+
+pub program-piece : (l : List ℕ) → Bytes l → 6 ≤ length l → programMarks 0 l ≡ true → programBytes (programFrom 0 l) ++ drop 6 l ≡ l
 unfolding programFrom programBytes
 program-piece l b h m =
     simp append-assoc
     (rw (piece l b 4 2 (omega arith), piece l b 1 1 (omega arith))
-    (ap (λ (x : List ℕ). x ++ drop 1 l) (flag-byte (read 1 0 l) m) ∙ piece l b 1 0 (omega arith)))
+    (ap (λ (x : List ℕ). x ++ drop 1 l) (flag-byte (read 1 0 l) (leb-true (read 1 0 l) 1 m)) ∙ piece l b 1 0 (omega arith)))
 
-pub program-inverse : Inverse FitsProgram programFrom programBytes 6 0
+program-marks-drop : (at : ℕ) (l : List ℕ) → programMarks 0 (drop at l) ≡ programMarks at l
+program-marks-drop at l = let z : at + 0 ≡ at = omega arith in simp (read-drop, z)
+
+pub program-inverse : Inverse FitsProgram programFrom programBytes 6 programMarks
 unfolding programBytes read
 program-inverse =
-    record { size = program-size; marks = λ p r. flag-small (p .added); reads = program-of-bytes; puts = program-piece; moves = program-drop }
+    record { size = program-size; marks = λ p r. flag-small (p .added); reads = program-of-bytes; puts = program-piece; moves = program-drop; good-moves = program-marks-drop }
 
 -- each field of each element fits its width
 pub record FitsSchedule (s : Schedule) : Type 0 where
@@ -90,8 +102,8 @@ module _ (s : Schedule) (w : whole s ≡ true) where
   unfolding formed
   formed-image =
       let l = image s in
-      let programs : marked programSize mostPrograms programsAt l ≡ true = rw (lengths .0) at (marked-of-flat program-inverse (s .programs) _ 9 l at-programs) in
-      let entries : marked entrySize mostEvents (entriesAt + markAt) l ≡ true = rw (lengths .1) at (marked-of-flat entry-inverse (s .entries) [] entriesAt l at-entries) in
+      let programs : marked 1 programSize mostPrograms programsAt l ≡ true = sym (programs-marked programSize mostPrograms programsAt l) ∙ rw (lengths .0) at (good-of-flat program-inverse (s .programs) _ 9 l at-programs) in
+      let entries : (marked 1 entrySize mostEvents (entriesAt + markAt) l && marked 7 entrySize mostEvents (entriesAt + choiceAt) l) ≡ true = sym (entries-marked entrySize mostEvents entriesAt l) ∙ rw (lengths .1) at (good-of-flat entry-inverse (s .entries) [] entriesAt l at-entries) in
       rw (eq-eqb (length l) imageSize image-length, programs, entries)
 
   -- a schedule is read again from its image
@@ -121,9 +133,9 @@ pub image-loaded : (l : List ℕ) → Bytes l → formed l ≡ true → image (l
 unfolding loaded image formed
 image-loaded l b f =
     let t = and-eq-true-iff (eqb (length l) imageSize) _ .0 f in
-    let m = and-eq-true-iff (marked programSize mostPrograms programsAt l) (marked entrySize mostEvents (entriesAt + markAt) l) .0 (t .1) in
+    let m = and-eq-true-iff (marked 1 programSize mostPrograms programsAt l) _ .0 (t .1) in
     let n : length l ≡ imageSize = eqb-true (length l) imageSize (t .0) in
     let end : drop imageSize l ≡ [] = drop-of-length-le l {i = imageSize} (omega arith) in
     let entries : flat entryBytes (many entryAt entrySize mostEvents entriesAt l) ≡ drop entriesAt l =
-    sym (append-nil _) ∙ rw end at (flat-of-many entry-inverse l b mostEvents entriesAt (omega arith) (m .1)) in
-    rw (entries, flat-of-many program-inverse l b 8 9 (omega arith) (m .0), piece l b 1 8 (omega arith), piece l b 8 0 (omega arith))
+    sym (append-nil _) ∙ rw end at (flat-of-many entry-inverse l b mostEvents entriesAt (omega arith) (entries-marked entrySize mostEvents entriesAt l ∙ m .1)) in
+    rw (entries, flat-of-many program-inverse l b 8 9 (omega arith) (programs-marked programSize mostPrograms programsAt l ∙ m .0), piece l b 1 8 (omega arith), piece l b 8 0 (omega arith))

@@ -13,7 +13,7 @@ use Rattle.rules.specs.declared.Entry.{Entry}
 use Rattle.rules.specs.declared.Program.{Program}
 use Rattle.rules.specs.Lists.{In}
 use Rattle.rules.specs.Records.{has}
-use Rattle.rules.specs.Holding.{rankOf, claim, noHolding, holdingAt, endOf}
+use Rattle.rules.specs.Holding.{rankOf, claim, holdingAt, endOf}
 use Rattle.rules.specs.Schedules.{Timed, goneBy, holding, seen}
 use Rattle.rules.specs.Clauses.{Holds, Free, Carries, ends, Standing, HoldingClauses}
 use Rattle.rules.proofs.ListLaws.{in-map, map-in}
@@ -47,8 +47,8 @@ not-gone t none s = refl
 not-gone t (some k) s = lt-leb k t (s k refl)
 
 module _ (ps : List Program) (ts : List Timed) where
-  idle : {P : Type 0} (t c : ℕ) (x : Timed) → holding ps ts t x ≡ noHolding → Holds ps ts t c x → P
-  idle t c x q e = not-has (holding ps ts t x .held) c (ap (λ k. k .held) q) e
+  idle : {P : Type 0} (t c : ℕ) (x : Timed) → holding ps ts t x .held ≡ 0 → Holds ps ts t c x → P
+  idle t c x q e = not-has (holding ps ts t x .held) c q e
 
   none-first : {P : Type 0} (c : ℕ) (x : Timed) → Holds ps ts 0 c x → P
   unfolding holding
@@ -104,7 +104,7 @@ module _ (ps : List Program) (ts : List Timed) where
   carries (suc t) c x e = claim-within (suc t) c (seen ps ts t x) (λ d. carries t c x (seen-held t c x d)) (claimed t c x e)
 
   pub begun : (t c : ℕ) (x : Timed) → Holds ps ts t c x → x .begins ≤ t
-  begun t c x e = let n : t < x .begins → ⊥ = λ l. idle t c x (holding-early ps ts t x l) e in omega arith
+  begun t c x e = let n : t < x .begins → ⊥ = λ l. idle t c x (ap (λ k. k .held) (holding-early ps ts t x l)) e in omega arith
 
   pub not-after : (t c : ℕ) (x : Timed) → Holds ps ts t c x → t < ends x
   not-after t c x e = let n : ends x ≤ t → ⊥ = λ l. idle t c x (holding-ended ps ts t x l) e in omega arith

@@ -1,27 +1,55 @@
--- Many seconds at once: seconds in which nothing begins or ends change the clock alone, and an advance may be cut anywhere.
-use mathlib.Core.Path.{_≡_, refl, sym, ap, _∙_, subst}
+-- Many seconds at once: seconds in which nothing begins or ends change the clock and the marks of choices alone, and an advance may be cut anywhere.
+use mathlib.Core.Path.{_≡_, refl, sym, ap, ap₂, _∙_, subst}
 use mathlib.Core.Logic.{_⊎_, inl, inr, ⊎-elim}
 use Prim.Native.Nat.{ℕ, zero, suc, _+_, _-_, _<_, _≤_, min}
-use mathlib.Core.Bool.{Bool, true, false, cond, _&&_, _||_}
-use mathlib.Core.List.{List, [], _∷_, _++_, append-assoc}
+use mathlib.Core.Bool.{Bool, true, false, cond, not, _&&_, _||_}
+use mathlib.Core.List.{List, [], _∷_, _++_, map, map-map, append-assoc}
 use native.Mathlib.Omega.{arith}
 use lib.Dec.{ltb, leb, eqb}
 use borrow.Author.Tests.{ltb-true, leb-true, leb-false, eqb-false}
 use Rattle.rules.specs.declared.Entry.{Entry}
 use Rattle.rules.specs.Lists.{each, In, All}
 use Rattle.rules.specs.Records.{State, lastClock}
-use Rattle.rules.specs.Holding.{endOf}
+use Rattle.rules.specs.Holding.{endOf, carry, withHolding, remarked}
 use Rattle.rules.specs.Moments.{Moved, second, advance}
 use Rattle.rules.specs.Clauses.{busy}
 use Rattle.rules.proofs.Tests.{either-false, each-true}
-use Rattle.rules.proofs.ListLaws.{each-all}
+use Rattle.rules.proofs.ListLaws.{each-all, all-map, map-cong}
 use Rattle.rules.proofs.Quiet.{Resting, quiet}
 use Rattle.rules.proofs.SoundState.{Sound}
 use Rattle.rules.proofs.SoundKept.{sound-second, sound-advance}
 
--- the clock alone, n seconds on
+-- the first of n seconds sets the marks of choices, and the others set no more
+abbrev pub marksIn : ℕ → List Entry → List Entry
+marksIn zero hs = hs
+marksIn (suc n) hs = map remarked hs
+
+-- the clock and the marks alone, n seconds on
 abbrev pub later : ℕ → State → State
-later n s = record { clock = s .clock + n; programs = s .programs; entries = s .entries }
+later n s = record { clock = s .clock + n; programs = s .programs; entries = marksIn n (s .entries) }
+
+-- a second that is like the one before sets no more
+pub carried-twice : (h : Entry) (m : ℕ) → remarked (withHolding h (carry h m)) ≡ withHolding h (carry h m)
+carried-twice h m = λ i. record {
+  event = h .event;
+  begins = h .begins;
+  held = m;
+  cancelled = h .cancelled;
+  choice = record {
+    out = h .choice .out;
+    «was_in» = twice (h .choice .«was_in») (not (eqb m 0) && not (h .choice .out)) i;
+    «was_out» = twice (h .choice .«was_out») (not (eqb m 0) && h .choice .out) i;
+  };
+}
+  where
+    twice : (a b : Bool) → ((a || b) || b) ≡ (a || b)
+    twice true b = refl
+    twice false true = refl
+    twice false false = refl
+
+marks-again : (n : ℕ) (hs : List Entry) → marksIn n (map remarked hs) ≡ map remarked hs
+marks-again zero hs = refl
+marks-again (suc n) hs = map-map remarked remarked hs ∙ map-cong (λ h. remarked (remarked h)) remarked hs (λ h m. carried-twice h (h .held))
 
 abbrev still : ℕ → State → Moved
 still n s = record { state = later n s; rows = [] }
@@ -61,13 +89,13 @@ pub idle : (n : ℕ) (s : State) → Sound s → s .clock + n ≤ lastClock → 
 unfolding advance
 idle zero s v l i = let e : s .clock ≡ s .clock + 0 = omega arith in ap (λ c. record { state = record { clock = c; programs = s .programs; entries = s .entries }; rows = [] }) e
 idle (suc n) s v l i =
-    let one : second s ≡ record { state = record { clock = suc (s .clock); programs = s .programs; entries = s .entries }; rows = [] } = quiet s (v .apart) (resting s v n i) in
+    let one : second s ≡ record { state = record { clock = suc (s .clock); programs = s .programs; entries = map remarked (s .entries) }; rows = [] } = quiet s (v .apart) (resting s v n i) in
     let next : Sound (second s .state) = sound-second s v (omega arith) in
     let there : s .clock + suc n ≡ suc (s .clock) + n = omega arith in
     ap (λ o. onward o (advance n (o .state))) one
-    ∙ idle n (record { clock = suc (s .clock); programs = s .programs; entries = s .entries }) (subst (λ o. Sound (o .state)) one next) (omega arith)
-    (λ h m. record { begins = λ p. ⊎-elim (λ b. inl (omega arith)) (λ b. inr (omega arith)) (i h m .begins p); ends = omega (arith, i h m .ends) })
-    ∙ ap (λ c. record { state = record { clock = c; programs = s .programs; entries = s .entries }; rows = [] }) (sym there)
+    ∙ idle n (record { clock = suc (s .clock); programs = s .programs; entries = map remarked (s .entries) }) (subst (λ o. Sound (o .state)) one next) (omega arith)
+    (all-map (Idle (suc (s .clock)) n) remarked (s .entries) (λ h m. record { begins = λ p. ⊎-elim (λ b. inl (omega arith)) (λ b. inr (omega arith)) (i h m .begins p); ends = omega (arith, i h m .ends) }))
+    ∙ ap₂ (λ c hs. record { state = record { clock = c; programs = s .programs; entries = hs }; rows = [] }) (sym there) (marks-again n (s .entries))
 
 -- the same as a test
 unfoldable pub idleFor : ℕ → ℕ → Entry → Bool
@@ -100,7 +128,7 @@ idle-next c (x ∷ xs) e l h m =
     go u w ih (inr n) = ih n
 
 pub quiet-second : (s : State) → Sound s → busy (suc (s .clock)) (s .entries) ≡ false
-    → second s ≡ record { state = record { clock = suc (s .clock); programs = s .programs; entries = s .entries }; rows = [] }
+    → second s ≡ record { state = record { clock = suc (s .clock); programs = s .programs; entries = map remarked (s .entries) }; rows = [] }
 quiet-second s v e = quiet s (v .apart) (resting s v 0 (idle-next (s .clock) (s .entries) e (λ h m. v .entries h m .lasts)))
 
 -- The next moment at which an entry begins or ends, at most the limit.

@@ -14,17 +14,17 @@ use Rattle.rules.specs.declared.Event.{Event}
 use Rattle.rules.specs.declared.Entry.{Entry}
 use Rattle.rules.specs.declared.Program.{Program}
 use Rattle.rules.specs.Lists.{keep, insert, In, All, Pairwise}
-use Rattle.rules.specs.Records.{idOf, noProgram, programAt}
+use Rattle.rules.specs.Records.{idOf, noProgram, differ, programAt}
 use Rattle.rules.specs.Period.{lift, drawnStart, effectiveStart, effectiveEnd}
 use Rattle.rules.specs.Sound.{malformed, outOfRange}
 use Rattle.rules.specs.Refusals.{find, late}
-use Rattle.rules.specs.Calls.{entry, entryId, mark}
-use Rattle.rules.specs.History.{cancelledAt, heldUnder}
-use Rattle.rules.specs.Schedules.{Timed, goneBy, asEntry, holding, seen, living, heldEvents}
+use Rattle.rules.specs.Calls.{entry, entryId, mark, decide}
+use Rattle.rules.specs.History.{Chosen, cancelledAt, heldUnder, standing, chosenAt}
+use Rattle.rules.specs.Schedules.{Timed, goneBy, outBy, asEntry, holding, seen, living, heldEvents}
 use Rattle.rules.proofs.Tests.{both, either-false}
 use Rattle.rules.proofs.ListLaws.{in-keep, keep-in, keep-map, keep-insert, map-cong, map-in, all-map, in-insert, insert-map, asc-insert, asc-map, asc-weaken}
-use Rattle.rules.proofs.Local.{timedId, cancelTimed, holding-early, holding-deliver, holding-cancel, holding-program, RankedAlike}
-use Rattle.rules.proofs.Second.{Past}
+use Rattle.rules.proofs.Local.{timedId, cancelTimed, cancel-before, chooseTimed, choose-before, holding-early, holding-deliver, holding-change, holding-program, RankedAlike}
+use Rattle.rules.proofs.Second.{Past, PastChoice, Heard, out-standing}
 
 abbrev pub ends : Timed → ℕ
 ends x = effectiveEnd (x .event)
@@ -43,7 +43,7 @@ before-id x y (inr e) = omega arith
 pub record Kept (ps : List Program) (ts : List Timed) (c : ℕ) : Type 0 where
   pub ascending : Pairwise Before ts
   pub proper : All (λ x. x .begins < ends x) ts
-  pub past : All (λ x. Past c (x .cancelled)) ts
+  pub past : All (Heard c) ts
   pub added : All (λ x. programAt ps (x .event .program) .added ≡ true) ts
 
 pub in-ids : (ts : List Timed) → Pairwise Before ts → Pairwise InId ts
@@ -96,7 +96,7 @@ module _ (ps : List Program) (ts : List Timed) (c : ℕ) (kept : Kept ps ts c) (
     (well : malformed e ≡ false) (soon : late c e ≡ false) (free : find (idOf e) (heldEvents ps ts c) ≡ none)
     (known : programAt ps (e .program) .added ≡ true) where
   abbrev pub new : Timed
-  new = record { event = e; begins = effectiveStart e c; cancelled = none }
+  new = record { event = e; begins = effectiveStart e c; cancelled = none; choices = [] }
 
   abbrev pub more : List Timed
   more = insert timedId new ts
@@ -105,7 +105,7 @@ module _ (ps : List Program) (ts : List Timed) (c : ℕ) (kept : Kept ps ts c) (
   kept-deliver = record {
     ascending = asc-insert timedId new Before ts (kept .ascending) behind (λ x m l. inl l) (in-ids ts (kept .ascending));
     proper = λ x m. all (λ x. x .begins < ends x) (begins-proper e c well soon) (kept .proper) x m;
-    past = λ x m. all (λ x. Past c (x .cancelled)) tt (kept .past) x m;
+    past = λ x m. all (Heard c) (record { cancelled = tt; chosen = tt }) (kept .past) x m;
     added = λ x m. all (λ x. programAt ps (x .event .program) .added ≡ true) known (kept .added) x m;
   }
     where
@@ -150,18 +150,23 @@ module _ (ps : List Program) (ts : List Timed) (c : ℕ) (kept : Kept ps ts c) (
   kept-cancel = record {
     ascending = asc-map Before Before (cancelTimed i c) (λ x y b. b) ts (kept .ascending);
     proper = all-map (λ x. x .begins < ends x) (cancelTimed i c) ts (kept .proper);
-    past = all-map (λ x. Past c (x .cancelled)) (cancelTimed i c) ts (λ x m. past-cancelled (heldUnder i c (x .event)) c (x .cancelled) (kept .past x m));
+    past = all-map (Heard c) (cancelTimed i c) ts (λ x m. record {
+      cancelled = past-cancelled (heldUnder i c (x .event)) c (x .cancelled) (kept .past x m .cancelled);
+      chosen = kept .past x m .chosen;
+    });
     added = all-map (λ x. programAt ps (x .event .program) .added ≡ true) (cancelTimed i c) ts (kept .added);
   }
 
   seen-mark : (x : Timed) → In x ts → living c x ≡ true → seen ps less c (cancelTimed i c x) ≡ mark i (seen ps ts c x)
-  seen-mark x m l = ap (asEntry c (cancelTimed i c x)) (holding-cancel ps i c ts c (omega arith) x) ∙ go (eqb (timedId x) i) (living c x) l
+  seen-mark x m l = ap (asEntry c (cancelTimed i c x)) (holding-change ps (cancelTimed i c) c (cancel-before i c) ts c (omega arith) x) ∙ go (eqb (timedId x) i) (living c x) l
     where
-      go : (b d : Bool) → d ≡ true → asEntry c (record { event = x .event; begins = x .begins; cancelled = cancelledAt (b && d) c (x .cancelled) }) (holding ps ts c x)
-          ≡ record { event = x .event; begins = x .begins; held = cond b 0 (seen ps ts c x .held); cancelled = b || goneBy c (x .cancelled) }
+      go : (b d : Bool) → d ≡ true
+          → asEntry c (record { event = x .event; begins = x .begins; cancelled = cancelledAt (b && d) c (x .cancelled); choices = x .choices }) (holding ps ts c x)
+          ≡ record { event = x .event; begins = x .begins; held = cond b 0 (seen ps ts c x .held); cancelled = b || goneBy c (x .cancelled); choice = seen ps ts c x .choice }
       go b false e = both false e refl
       go true true e =
-          ap (λ g. record { event = x .event; begins = x .begins; held = cond g 0 (holding ps ts c x .held); cancelled = g }) (gone-now c (x .cancelled) (kept .past x m))
+          ap (λ g. record { event = x .event; begins = x .begins; held = cond g 0 (holding ps ts c x .held); cancelled = g; choice = seen ps ts c x .choice })
+          (gone-now c (x .cancelled) (kept .past x m .cancelled))
       go false true e = refl
 
   pub entries-cancel : heldEvents ps less c ≡ map (mark i) (heldEvents ps ts c)
@@ -172,6 +177,65 @@ module _ (ps : List Program) (ts : List Timed) (c : ℕ) (kept : Kept ps ts c) (
       ∙ map-cong (λ x. seen ps less c (cancelTimed i c x)) (λ x. mark i (seen ps ts c x)) (keep (living c) ts)
       (λ x m. let r = in-keep (living c) x ts m in seen-mark x (r .0) (r .1))
       ∙ sym (map-map (mark i) (seen ps ts c) (keep (living c) ts))
+
+-- A choice.
+
+past-chosen : (b : Bool) (c : ℕ) (out : Bool) (cs : List Chosen) → PastChoice c cs → PastChoice c (chosenAt b c out cs)
+past-chosen b c out cs p = go (b && differ (standing cs) out)
+  where
+    go : (d : Bool) → PastChoice c (cond d (record { clock = c; out = out } ∷ cs) cs)
+    go true = omega arith
+    go false = p
+
+differ-not : (a b : Bool) → differ a b ≡ false → a ≡ b
+differ-not true true e = refl
+differ-not true false e = both true refl e
+differ-not false b e = sym e
+
+out-now : (c : ℕ) (out : Bool) (cs : List Chosen) → PastChoice c cs → outBy c (chosenAt true c out cs) ≡ out
+out-now c out cs p = go (differ (standing cs) out) refl
+  where
+    go : (d : Bool) → differ (standing cs) out ≡ d → outBy c (cond d (record { clock = c; out = out } ∷ cs) cs) ≡ out
+    go true e = rw (le-leb c c (omega arith))
+    go false e = out-standing c cs p ∙ differ-not (standing cs) out e
+
+module _ (ps : List Program) (ts : List Timed) (c : ℕ) (kept : Kept ps ts c) (i : ℕ) (out : Bool) where
+  abbrev pub decided : List Timed
+  decided = map (chooseTimed i out c) ts
+
+  pub kept-choose : Kept ps decided c
+  kept-choose = record {
+    ascending = asc-map Before Before (chooseTimed i out c) (λ x y b. b) ts (kept .ascending);
+    proper = all-map (λ x. x .begins < ends x) (chooseTimed i out c) ts (kept .proper);
+    past = all-map (Heard c) (chooseTimed i out c) ts (λ x m. record {
+      cancelled = kept .past x m .cancelled;
+      chosen = past-chosen (heldUnder i c (x .event)) c out (x .choices) (kept .past x m .chosen);
+    });
+    added = all-map (λ x. programAt ps (x .event .program) .added ≡ true) (chooseTimed i out c) ts (kept .added);
+  }
+
+  seen-decide : (x : Timed) → In x ts → living c x ≡ true → seen ps decided c (chooseTimed i out c x) ≡ decide i out (seen ps ts c x)
+  seen-decide x m l = rw (holding-change ps (chooseTimed i out c) c (choose-before i out c) ts c (omega arith) x, l) (go (eqb (timedId x) i))
+    where
+      go : (b : Bool) → asEntry c (record { event = x .event; begins = x .begins; cancelled = x .cancelled; choices = chosenAt (b && true) c out (x .choices) }) (holding ps ts c x)
+          ≡ record {
+            event = x .event;
+            begins = x .begins;
+            held = seen ps ts c x .held;
+            cancelled = goneBy c (x .cancelled);
+            choice = record { out = cond b out (outBy c (x .choices)); «was_in» = holding ps ts c x .«was_in»; «was_out» = holding ps ts c x .«was_out» };
+          }
+      go true = rw (out-now c out (x .choices) (kept .past x m .chosen))
+      go false = refl
+
+  pub entries-choose : heldEvents ps decided c ≡ map (decide i out) (heldEvents ps ts c)
+  unfolding heldEvents
+  entries-choose =
+      ap (map (seen ps decided c)) (keep-map (living c) (chooseTimed i out c) ts)
+      ∙ map-map (seen ps decided c) (chooseTimed i out c) (keep (living c) ts)
+      ∙ map-cong (λ x. seen ps decided c (chooseTimed i out c x)) (λ x. decide i out (seen ps ts c x)) (keep (living c) ts)
+      (λ x m. let r = in-keep (living c) x ts m in seen-decide x (r .0) (r .1))
+      ∙ sym (map-map (decide i out) (seen ps ts c) (keep (living c) ts))
 
 -- A program.
 

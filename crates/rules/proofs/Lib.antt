@@ -14,7 +14,7 @@ pub mod Second  -- a second on the state of a history leads to its state a secon
 pub mod Kept  -- what every history keeps: its events ascend, those of one id do not overlap
 pub mod Ranks  -- better is a strict order
 pub mod Holders  -- the best of those that claim a control holds it
-pub mod Quiet  -- where nothing begins or ends, a second changes the clock alone
+pub mod Quiet  -- where nothing begins or ends, a second changes the clock and the marks of the choices alone
 pub mod Interval  -- an event holds a control in one interval
 pub mod Nobody  -- an event that holds nothing blocks nobody
 -- The rules of an image, as statements and kept; many seconds at once.
@@ -43,6 +43,7 @@ pub mod Bound  -- how many rows there are at the most
 pub mod Refused  -- when 10 and 13 are given, and when not
 pub mod Cancelled  -- what a cancellation finds and marks
 pub mod CallLaws  -- what the numbers say of a call; deliveries and readings that change nothing
+pub mod Choosing  -- which code an end gives by the choices; choices change no held mask, and nothing of another event
 pub mod Room  -- the program's buffer fits every reading
 pub mod Defaults  -- the best default is better than all, and only one can be
 pub mod FaceLaws  -- the C face does what the call by value does

@@ -1,18 +1,15 @@
 -- Numbers and things in a row, and their bytes, are inverse: by induction over the width and over the things.
 use mathlib.Core.Path.{_≡_, refl, sym, ap, ap₂, _∙_}
 use mathlib.Core.Logic.{inl, inr}
-use mathlib.Core.Bool.{true, and-eq-true-iff}
+use mathlib.Core.Bool.{Bool, _&&_, true, and-eq-true-iff}
 use Prim.Native.Nat.{ℕ, zero, suc, _+_, _*_, _/_, _%_, _^_, _<_, _≤_}
 use mathlib.Core.List.{List, [], _∷_, _++_, append-assoc, map}
 use native.Mathlib.Omega.{arith}
 use native.Mathlib.Nat.{pow-suc, pow-succ', mul-suc}
-use borrow.Author.Tests.{leb-true, le-leb}
-use lib.Dec.{leb}
 use lib.ListN.{length, take, drop, getD, length-append, length-drop, List·getD-append, take-append-drop}
 use lib.Seq.{take-suc, getD-drop, getD-at, drop-drop, drop-at}
 use Rattle.rules.specs.Lists.{All}
 use Rattle.rules.specs.Bytes.{big, read, flat, many}
-use Rattle.rules.specs.Image.{marked}
 
 pub big-length : (n x : ℕ) → length (big n x) ≡ n
 unfolding big
@@ -93,16 +90,22 @@ many-last f k l (suc n) at =
     let z : at + k * suc n ≡ at + k + k * n = omega (arith, mul-suc k n) in
     rw z (ap (_∷_ (f at l)) (many-last f k l n (at + k)))
 
--- a thing of k bytes, with a mark at byte m, is inverse to its bytes; P says that its fields fit
-pub record Inverse {A : Type 0} (P : A → Type 0) (f : ℕ → List ℕ → A) (put : A → List ℕ) (k m : ℕ) : Type 0 where
+-- whether n things, k bytes from one to the next, pass a test each
+unfoldable pub allGood : (ℕ → List ℕ → Bool) → ℕ → ℕ → ℕ → List ℕ → Bool
+allGood good k zero at l = true
+allGood good k (suc n) at l = good at l && allGood good k n (at + k) l
+
+-- a thing of k bytes, whose marks pass the test `good`, is inverse to its bytes; P says that its fields fit
+pub record Inverse {A : Type 0} (P : A → Type 0) (f : ℕ → List ℕ → A) (put : A → List ℕ) (k : ℕ) (good : ℕ → List ℕ → Bool) : Type 0 where
   pub size : (x : A) → length (put x) ≡ k
-  pub marks : (x : A) (r : List ℕ) → read 1 m (put x ++ r) ≤ 1
+  pub marks : (x : A) (r : List ℕ) → good 0 (put x ++ r) ≡ true
   pub reads : (x : A) → P x → (r : List ℕ) → f 0 (put x ++ r) ≡ x
-  pub puts : (l : List ℕ) → Bytes l → k ≤ length l → read 1 m l ≤ 1 → put (f 0 l) ++ drop k l ≡ l
+  pub puts : (l : List ℕ) → Bytes l → k ≤ length l → good 0 l ≡ true → put (f 0 l) ++ drop k l ≡ l
   pub moves : (at : ℕ) (l : List ℕ) → f 0 (drop at l) ≡ f at l
+  pub good-moves : (at : ℕ) (l : List ℕ) → good 0 (drop at l) ≡ good at l
 
 -- then so are things one after the other
-module _ {A : Type 0} {P : A → Type 0} {f : ℕ → List ℕ → A} {put : A → List ℕ} {k m : ℕ} (one : Inverse P f put k m) where
+module _ {A : Type 0} {P : A → Type 0} {f : ℕ → List ℕ → A} {put : A → List ℕ} {k : ℕ} {good : ℕ → List ℕ → Bool} (one : Inverse P f put k good) where
   -- the first, and what is past it
   module _ (x : A) (xs : List A) (r : List ℕ) (at : ℕ) (l : List ℕ) (e : drop at l ≡ flat put (x ∷ xs) ++ r) where
     this : drop at l ≡ put x ++ (flat put xs ++ r)
@@ -119,23 +122,21 @@ module _ {A : Type 0} {P : A → Type 0} {f : ℕ → List ℕ → A} {put : A �
       let head : f at l ≡ x = rw (← one .moves at l, this x xs r at l e) (one .reads x (a x (inl refl)) (flat put xs ++ r)) in
       ap₂ _∷_ head (many-of-flat xs (λ y i. a y (inr i)) r (at + k) l (rest x xs r at l e))
 
-  pub marked-of-flat : (xs : List A) (r : List ℕ) (at : ℕ) (l : List ℕ) → drop at l ≡ flat put xs ++ r → marked k (length xs) (at + m) l ≡ true
-  unfolding marked
-  marked-of-flat [] r at l e = refl
-  marked-of-flat (x ∷ xs) r at l e =
-      let z : at + m + k ≡ at + k + m = omega arith in
-      let mark : read 1 (at + m) l ≤ 1 = rw (← read-drop 1 m at l, this x xs r at l e) (one .marks x (flat put xs ++ r)) in
-      rw (le-leb (read 1 (at + m) l) 1 mark, z) (marked-of-flat xs r (at + k) l (rest x xs r at l e))
+  pub good-of-flat : (xs : List A) (r : List ℕ) (at : ℕ) (l : List ℕ) → drop at l ≡ flat put xs ++ r → allGood good k (length xs) at l ≡ true
+  unfolding allGood
+  good-of-flat [] r at l e = refl
+  good-of-flat (x ∷ xs) r at l e =
+      let mark : good at l ≡ true = sym (one .good-moves at l) ∙ ap (good 0) (this x xs r at l e) ∙ one .marks x (flat put xs ++ r) in
+      rw mark (good-of-flat xs r (at + k) l (rest x xs r at l e))
 
-  pub flat-of-many : (l : List ℕ) → Bytes l → (n at : ℕ) → at + k * n ≤ length l → marked k n (at + m) l ≡ true
+  pub flat-of-many : (l : List ℕ) → Bytes l → (n at : ℕ) → at + k * n ≤ length l → allGood good k n at l ≡ true
       → flat put (many f k n at l) ++ drop (at + k * n) l ≡ drop at l
-  unfolding many flat marked
+  unfolding many flat allGood
   flat-of-many l b zero at h t = let z : at + k * 0 ≡ at = omega arith in rw z
   flat-of-many l b (suc n) at h t =
       let z : at + k * suc n ≡ at + k + k * n = omega (arith, mul-suc k n) in
-      let y : at + m + k ≡ at + k + m = omega arith in
-      let t′ = and-eq-true-iff (leb (read 1 (at + m) l) 1) (marked k n (at + m + k) l) .0 t in
-      let mark : read 1 m (drop at l) ≤ 1 = rw read-drop (leb-true (read 1 (at + m) l) 1 (t′ .0)) in
+      let t′ = and-eq-true-iff (good at l) (allGood good k n (at + k) l) .0 t in
+      let mark : good 0 (drop at l) ≡ true = one .good-moves at l ∙ t′ .0 in
       let room : k ≤ length (drop at l) = simp length-drop (omega arith) in
-      rw (append-assoc, z, flat-of-many l b n (at + k) (omega arith) (rw y at (t′ .1)), ← one .moves at l, ← drop-drop k at l)
+      rw (append-assoc, z, flat-of-many l b n (at + k) (omega arith) (t′ .1), ← one .moves at l, ← drop-drop k at l)
       (one .puts (drop at l) (λ i. rw getD-drop (b (at + i))) room mark)

@@ -19,10 +19,11 @@ use Rattle.rules.specs.Period.{drawnStart, effectiveStart, effectiveEnd}
 use Rattle.rules.specs.Bytes.{bytes, flat}
 use Rattle.rules.specs.Sound.{sound}
 use Rattle.rules.specs.Refusals.{firstOf, listChecks, askChecks}
-use Rattle.rules.specs.Calls.{Call, list, ask, Value, count, holder, entryId, recordOf, defaultFor, bestDefault, holderIn, answerFor, does, checks, accepted, refused, counted, Outcome, call}
+use Rattle.rules.specs.Calls.{Call, list, ask, Value, count, holder, entryId, recordOf, defaultFor, bestDefault, governs, holderIn, answerFor, does, checks, accepted, refused, counted, Outcome, call}
 use Rattle.rules.specs.History.{Brought, History, historyOf}
-use Rattle.rules.specs.Schedules.{Timed, timed, goneBy, holding, living, seen, rowsTo, heldEvents, programsOf, timesOf, stateAt, stateOf, rowsOf}
-use Rattle.rules.specs.Arrival.{after, joinedRows, eventsOf, Cancellation, InTime, SameArrivals, Started, startsOf, SameStarts, heldOf, Listed, Asked, OneHolder, NoTwoHolders, AsScheduled, SameResults, ArrivalOrder}
+use Rattle.rules.specs.Schedules.{Timed, timed, goneBy, outBy, holding, living, seen, rowsTo, heldEvents, programsOf, timesOf, stateAt, stateOf, rowsOf}
+use Rattle.rules.specs.Arrival.{after, joinedRows, eventsOf, Cancellation, Choices, InTime, SameArrivals, Started, startsOf, SameStarts, heldOf, Listed, Asked, OneHolder, NoTwoHolders, AsScheduled, SameResults, ArrivalOrder}
+use Rattle.rules.proofs.Tests.{each-true}
 use Rattle.rules.proofs.ListLaws.{in-map, map-in, all-map, in-keep, keep-in, asc-keep, map-same, ext, one}
 use Rattle.rules.proofs.Masks.{not-has}
 use Rattle.rules.proofs.Local.{holding-ended}
@@ -33,6 +34,7 @@ use Rattle.rules.proofs.CallLaws.{not-two, own-pad}
 use Rattle.rules.proofs.Scheduled.{Inv, scheduled}
 use Rattle.rules.proofs.RowOrder.{rows-ascend}
 use Rattle.rules.proofs.OneHolder.{one-holder}
+use Rattle.rules.proofs.Quiet.{same-holder}
 use Rattle.rules.proofs.Members.{programs-same, in-cancellations, cancellations-in}
 
 asym : (x y : Timed) → Before x y → Before y x → ⊥
@@ -44,8 +46,8 @@ asym x y (inr l) (inr m) = omega arith
 never : {P : Type 0} (o : Option ℕ) (k : ℕ) → o ≡ none → o ≡ some k → P
 never o k p q = absurd (let z : _≡_ {A = ℕ} 0 1 = cc in omega arith)
 
-timed-same : (p q : Brought) → timed q .begins ≡ timed p .begins → q .event ≡ p .event → q .cancelled ≡ p .cancelled → timed p ≡ timed q
-timed-same p q b e d = sym (λ i. record { event = e i; begins = b i; cancelled = d i })
+timed-same : (p q : Brought) → timed q .begins ≡ timed p .begins → q .event ≡ p .event → q .cancelled ≡ p .cancelled → q .choices ≡ p .choices → timed p ≡ timed q
+timed-same p q b e d c = sym (λ i. record { event = e i; begins = b i; cancelled = d i; choices = c i })
 
 -- two entries of one event are one: the second would begin after its own end
 once : (H : History) → Inv H → (p q : Brought) → In p (H .brought) → In q (H .brought) → q .event ≡ p .event → timed p ≡ timed q
@@ -82,19 +84,27 @@ module _ (H K : History) (v : Inv H) (w : Inv K) (same : SameStarts H K) where
       let r = in-cancellations (K .brought) it (same .cancellations it .0 (cancellations-in (H .brought) p m k d)) in
       d ∙ sym (r .3) ∙ sym (ap (λ x. x .cancelled) (once K w q (r .0) n (r .1) (r .2 ∙ sym e)))
 
+  -- with the same choices
+  chosen : (p q : Brought) → In p (H .brought) → In q (K .brought) → q .event ≡ p .event → q .choices ≡ p .choices
+  chosen p q m n e =
+      let f : Brought → Choices = λ b. record { event = b .event; made = b .choices } in
+      let r = in-map f (f p) (K .brought) (same .choices (f p) .0 (map-in f p (H .brought) m)) in
+      ap (λ x. x .choices) (once K w q (r .0) n (r .1) (sym (ap (λ c. c .event) (r .2)) ∙ sym e)) ∙ sym (ap (λ c. c .made) (r .2))
+
   times-in : (z : Timed) → In z (timesOf H) → In z (timesOf K)
   times-in z m =
       let r = in-map timed z (H .brought) m in
       let p = r .0 in
       let q = started p (r .1) in
       let d = cancelled p (q .0) (r .1) (q .1) (q .2) (p .cancelled) (q .0 .cancelled) refl refl in
-      rw (r .2, timed-same p (q .0) (q .3) (q .2) (sym d)) (map-in timed (q .0) (K .brought) (q .1))
+      rw (r .2, timed-same p (q .0) (q .3) (q .2) (sym d) (chosen p (q .0) (r .1) (q .1) (q .2))) (map-in timed (q .0) (K .brought) (q .1))
 
 turned : {H K : History} → SameStarts H K → SameStarts K H
 turned s = record {
   programs = λ a. (s .programs a .1, s .programs a .0);
   starts = λ a. (s .starts a .1, s .starts a .0);
   cancellations = λ a. (s .cancellations a .1, s .cancellations a .0);
+  choices = λ a. (s .choices a .1, s .choices a .0);
   last = sym (s .last);
 }
 
@@ -114,16 +124,16 @@ module _ (H K : History) (v : Inv H) (w : Inv K) (same : SameStarts H K) where
 -- Answers after a list.
 
 -- the first that holds a control is the one that does
-holder-held : (c : ℕ) (else : Value) (hs : List Entry) → OneHolder hs → (h : Entry) → In h hs → has (h .held) c ≡ true → holderIn c hs else ≡ holder (entryId h)
+holder-held : (c : ℕ) (else : Value) (hs : List Entry) → OneHolder hs → (h : Entry) → In h hs → governs c h ≡ true → holderIn c hs else ≡ holder (entryId h)
 unfolding holderIn
 holder-held c else (x ∷ xs) one h (inl q) e = rw (← q, e)
-holder-held c else (x ∷ xs) one h (inr m) e = go (has (x .held) c) refl (holder-held c else xs (one .1) h m e)
+holder-held c else (x ∷ xs) one h (inr m) e = go (governs c x) refl (holder-held c else xs (one .1) h m e)
   where
-    go : (b : Bool) → has (x .held) c ≡ b → holderIn c xs else ≡ holder (entryId h) → cond b (holder (entryId x)) (holderIn c xs else) ≡ holder (entryId h)
-    go true d ih = absurd (one .0 h m c d e)
+    go : (b : Bool) → governs c x ≡ b → holderIn c xs else ≡ holder (entryId h) → cond b (holder (entryId x)) (holderIn c xs else) ≡ holder (entryId h)
+    go true d ih = absurd (one .0 h m c (each-true (has (x .held) c) _ d .0) (each-true (has (h .held) c) _ e .0))
     go false d ih = ih
 
-holder-free : (c : ℕ) (else : Value) (hs : List Entry) → All (λ h. has (h .held) c ≡ false) hs → holderIn c hs else ≡ else
+holder-free : (c : ℕ) (else : Value) (hs : List Entry) → All (λ h. governs c h ≡ false) hs → holderIn c hs else ≡ else
 unfolding holderIn
 holder-free c else [] h = refl
 holder-free c else (x ∷ xs) h = rw (h x (inl refl)) (holder-free c else xs (λ y m. h y (inr m)))
@@ -135,7 +145,7 @@ holds-living ps ts t c x e = go (living t x) refl (goneBy t (x .cancelled)) e
     go : (b : Bool) → living t x ≡ b → (g : Bool) → has (cond g 0 (holding ps ts t x .held)) c ≡ true → b ≡ true
     go true l g e = refl
     go false l true e = not-has 0 c refl e
-    go false l false e = not-has (holding ps ts t x .held) c (ap (λ k. k .held) (holding-ended ps ts t x (ltb-false t (effectiveEnd (x .event)) l))) e
+    go false l false e = not-has (holding ps ts t x .held) c (holding-ended ps ts t x (ltb-false t (effectiveEnd (x .event)) l)) e
 
 module _ (H : History) (v : Inv H) (u : Sound (stateOf H)) where
   abbrev ps : List Program
@@ -163,10 +173,20 @@ module _ (H : History) (v : Inv H) (u : Sound (stateOf H)) where
   unfolding checks askChecks does answerFor heldEvents
   asked-is c l = rw (call-pad (stateOf H) u (ask c), le-ltb 31 c (omega arith)) (record {
     accepted = refl;
-    held = λ x m e. holder-held c else hs alone (seen ps ts t x) (map-in (seen ps ts t) x (keep (living t) ts) (keep-in (living t) x ts m (holds-living ps ts t c x e))) e;
-    free = λ f. holder-free c else hs (all-map (λ h. has (h .held) c ≡ false) (seen ps ts t) (keep (living t) ts) (λ x m. f x (in-keep (living t) x ts m .0)));
+    held = λ x m e o. holder-held c else hs alone (seen ps ts t x) (held-in x m e) (rw (e, o));
+    out = λ x m e o. holder-free c else hs (λ h n. silent x h n (held-in x m e) e o (has (h .held) c) refl);
+    free = λ f. holder-free c else hs (all-map (λ h. governs c h ≡ false) (seen ps ts t) (keep (living t) ts) (λ x m. rw (f x (in-keep (living t) x ts m .0))));
   })
     where
+      held-in : (x : Timed) → In x ts → has (seen ps ts t x .held) c ≡ true → In (seen ps ts t x) hs
+      held-in x m e = map-in (seen ps ts t) x (keep (living t) ts) (keep-in (living t) x ts m (holds-living ps ts t c x e))
+
+      -- where the holder is out, nobody answers
+      silent : (x : Timed) (h : Entry) → In h hs → In (seen ps ts t x) hs → has (seen ps ts t x .held) c ≡ true → outBy t (x .choices) ≡ true
+          → (b : Bool) → has (h .held) c ≡ b → governs c h ≡ false
+      silent x h n m e o true d = ap (governs c) (same-holder hs alone h (seen ps ts t x) n m c d e) ∙ rw (e, o)
+      silent x h n m e o false d = rw d
+
       else : Value
       else = defaultFor (bestDefault c 0 ps)
 
@@ -260,6 +280,7 @@ same-starts H K s = record {
   programs = s .programs;
   starts = λ z. (start-in H K (s .events) (s .in-time) (s .in-time-too) z, start-in K H (λ e. (s .events e .1, s .events e .0)) (s .in-time-too) (s .in-time) z);
   cancellations = s .cancellations;
+  choices = s .choices;
   last = s .last;
 }
 

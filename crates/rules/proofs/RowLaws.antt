@@ -11,14 +11,15 @@ use Rattle.rules.specs.declared.Program.{Program}
 use Rattle.rules.specs.Lists.{In}
 use Rattle.rules.specs.Records.{has}
 use Rattle.rules.specs.Holding.{claim, taken, Holding, holdingAt}
+use Rattle.rules.specs.Rows.{endCode, ending}
 use Rattle.rules.specs.Schedules.{Timed, goneBy, holding, seen}
-use Rattle.rules.specs.Clauses.{Holds, Better, ends, Standing, HoldsAny, codeGiven, RowClauses}
+use Rattle.rules.specs.Clauses.{Holds, Better, ends, Standing, HoldsAny, codeGiven, EndsHolding, RowClauses}
 use Rattle.rules.proofs.ListLaws.{in-map}
 use Rattle.rules.proofs.Masks.{not-has, no-bits, some-bit}
 use Rattle.rules.proofs.Holders.{held-if, blocked}
 use Rattle.rules.proofs.Interval.{claim-later, not-gone, begun, not-after}
 use Rattle.rules.proofs.RowsGiven.{rows-are-given}
-use Rattle.rules.proofs.CodeLaws.{Loses, code-starts, code-ends, code-loses, is-start, is-end, is-loss, one-of-four}
+use Rattle.rules.proofs.CodeLaws.{Ends, Loses, end-code, code-starts, code-ends, code-loses, is-start, is-end, is-loss, one-of-four}
 
 module _ (ps : List Program) (ts : List Timed) (t : ℕ) (x : Timed) where
   -- what it is a second before, and what it carries at the moment
@@ -50,15 +51,23 @@ module _ (ps : List Program) (ts : List Timed) (t : ℕ) (x : Timed) where
     }),
   )
 
-  end-law : codeGiven ps ts t x ≡ 3 ↔ ((ends x ≡ suc t) × Standing (suc t) x × HoldsAny ps ts t x)
+  ends-holding : EndsHolding ps ts t x → Ends (suc t) it now
+  ends-holding e =
+      let s = not-gone t (x .cancelled) (e .1) in record {
+        standing = s;
+        ends = e .0;
+        begun = omega (arith, begun ps ts t (e .2 .0) x (e .2 .1));
+        held = λ z. not-has before (e .2 .0) (sym (seen-whole s) ∙ z) (e .2 .1);
+      }
+
+  -- the code of its end, by the choice that stood a second before
+  pub code-at-end : EndsHolding ps ts t x → codeGiven ps ts t x ≡ endCode (it .choice)
+  code-at-end e = code-ends (suc t) it now (ends-holding e)
+
+  pub end-law : ending (codeGiven ps ts t x) ≡ true ↔ EndsHolding ps ts t x
   end-law = (
     λ e. let v = is-end (suc t) it now e in (v .ends, stands (v .standing), some-bit before (λ z. v .held (seen-whole (v .standing) ∙ z))),
-    λ e. let s = not-gone t (x .cancelled) (e .1) in code-ends (suc t) it now (record {
-      standing = s;
-      ends = e .0;
-      begun = omega (arith, begun ps ts t (e .2 .0) x (e .2 .1));
-      held = λ z. not-has before (e .2 .0) (sym (seen-whole s) ∙ z) (e .2 .1);
-    }),
+    λ e. ap ending (code-at-end e) ∙ end-code (it .choice),
   )
 
   superseded-law : codeGiven ps ts t x ≡ 7 ↔ ((suc t < ends x) × Standing (suc t) x × (HoldsAny ps ts (suc t) x → ⊥) × ((x .begins ≡ suc t) ⊎ HoldsAny ps ts t x))

@@ -1,11 +1,10 @@
--- Rows ascend: of two events that give the same code at one moment the ids ascend, since those of one id do not overlap.
-use mathlib.Core.Path.{_≡_, refl, sym, ap, _∙_, subst}
+-- Rows ascend: of two events that give codes of one kind at one moment the ids ascend, since those of one id do not overlap.
+use mathlib.Core.Path.{_≡_, refl, sym, ap, _∙_}
 use mathlib.Core.Logic.{_⊎_, inl, inr, ⊎-elim}
 use Prim.Native.Nat.{ℕ, zero, suc, _-_, _<_, _≤_}
 use native.Mathlib.Omega.{arith}
 use mathlib.Core.Bool.{Bool, true}
 use mathlib.Core.List.{List, _++_, map}
-use lib.Dec.{eqb}
 use borrow.Author.Tests.{eqb-true}
 use Rattle.rules.specs.declared.Entry.{Entry}
 use Rattle.rules.specs.declared.Program.{Program}
@@ -13,7 +12,7 @@ use Rattle.rules.specs.declared.Schedule.{Schedule}
 use Rattle.rules.specs.Lists.{keep, In, All, Pairwise}
 use Rattle.rules.specs.Records.{State, view}
 use Rattle.rules.specs.Holding.{Holding, holdingAt, withHolding, endOf}
-use Rattle.rules.specs.Rows.{Row, codeAt, rowOf, rowsWith, rowsFrom, rowsAt, turn, Sooner}
+use Rattle.rules.specs.Rows.{Row, codeAt, rowOf, rowsWith, rowsFrom, rowsAt, ending, superseded, starting, turn, Sooner}
 use Rattle.rules.specs.Moments.{lasts, entriesFrom, second, advance, passed}
 use Rattle.rules.specs.Sound.{sound}
 use Rattle.rules.specs.Calls.{entryId}
@@ -31,48 +30,62 @@ Behind h o = (entryId h < entryId o) ⊎ ((endOf h ≤ o .begins) × (o .begins 
 -- At one moment.
 
 module _ (t : ℕ) (now : Entry → Holding) where
-  -- two entries give the same code only if their ids ascend
-  abbrev IdsAscend : ℕ → Type 0
-  IdsAscend n = (h o : Entry) → Behind h o → codeAt t h (now h) ≡ n → codeAt t o (now o) ≡ n → entryId h < entryId o
+  -- two entries give codes of one kind only if their ids ascend
+  abbrev IdsAscend : (ℕ → Bool) → Type 0
+  IdsAscend kind = (h o : Entry) → Behind h o → kind (codeAt t h (now h)) ≡ true → kind (codeAt t o (now o)) ≡ true → entryId h < entryId o
 
-  two-ends : IdsAscend 3
+  two-ends : IdsAscend ending
   two-ends h o (inl l) d e = l
   two-ends h o (inr b) d e = absurd (let v = is-end t h (now h) d in let w = is-end t o (now o) e in omega arith)
 
-  two-losses : IdsAscend 7
+  two-losses : IdsAscend superseded
   two-losses h o (inl l) d e = l
-  two-losses h o (inr b) d e = absurd (let v = is-loss t h (now h) d in let w = is-loss t o (now o) e in omega arith)
+  two-losses h o (inr b) d e =
+      absurd (let v = is-loss t h (now h) (eqb-true _ 7 d) in let w = is-loss t o (now o) (eqb-true _ 7 e) in omega arith)
 
-  two-starts : IdsAscend 2
+  two-starts : IdsAscend starting
   two-starts h o (inl l) d e = l
-  two-starts h o (inr b) d e = absurd (let v = is-start t h (now h) d in let w = is-start t o (now o) e in omega arith)
+  two-starts h o (inr b) d e =
+      absurd (let v = is-start t h (now h) (eqb-true _ 2 d) in let w = is-start t o (now o) (eqb-true _ 2 e) in omega arith)
 
   module _ (hs : List Entry) where
-    -- the rows of one code
-    abbrev of : ℕ → List Row
-    of n = rowsWith t now hs (λ code. eqb code n)
+    -- the rows of one kind, whose turn is that number
+    abbrev of : (ℕ → Bool) → List Row
+    of kind = rowsWith t now hs kind
 
-    of-code : (n : ℕ) (r : Row) → In r (of n) → (r .time ≡ t) × (r .code ≡ n)
+    abbrev Turn : (ℕ → Bool) → ℕ → Type 0
+    Turn kind n = (code : ℕ) → kind code ≡ true → turn code ≡ n
+
+    of-kind : (kind : ℕ → Bool) (n : ℕ) → Turn kind n → (r : Row) → In r (of kind) → (r .time ≡ t) × (turn (r .code) ≡ n)
     unfolding rowsWith
-    of-code n r m =
-        let p : Entry → Bool = λ h. eqb (codeAt t h (now h)) n in
+    of-kind kind n f r m =
+        let p : Entry → Bool = λ h. kind (codeAt t h (now h)) in
         let q = in-map (rowOf t now) r (keep p hs) m in
-        (ap (λ r. r .time) (q .2), ap (λ r. r .code) (q .2) ∙ eqb-true (codeAt t (q .0) (now (q .0))) n (in-keep p (q .0) hs (q .1) .1))
+        (ap (λ r. r .time) (q .2), ap (λ r. turn (r .code)) (q .2) ∙ f (codeAt t (q .0) (now (q .0))) (in-keep p (q .0) hs (q .1) .1))
 
-    by-id : (n : ℕ) → IdsAscend n → Pairwise Behind hs → Pairwise Sooner (of n)
+    by-id : (kind : ℕ → Bool) (n : ℕ) → Turn kind n → IdsAscend kind → Pairwise Behind hs → Pairwise Sooner (of kind)
     unfolding rowsWith
-    by-id n apart b =
-        let p : Entry → Bool = λ h. eqb (codeAt t h (now h)) n in
-        let code : All (λ h. codeAt t h (now h) ≡ n) (keep p hs) = λ h m. eqb-true (codeAt t h (now h)) n (in-keep p h hs m .1) in
-        asc-map (λ h o. Behind h o × (codeAt t h (now h) ≡ n) × (codeAt t o (now o) ≡ n)) Sooner (rowOf t now)
-        (λ h o r. inr (refl, inr (ap turn (r .1 ∙ sym (r .2)), apart h o (r .0) (r .1) (r .2))))
-        (keep p hs) (asc-with Behind (λ h. codeAt t h (now h) ≡ n) (keep p hs) (asc-keep Behind p hs b) code)
+    by-id kind n f apart b =
+        let p : Entry → Bool = λ h. kind (codeAt t h (now h)) in
+        let code : All (λ h. p h ≡ true) (keep p hs) = λ h m. in-keep p h hs m .1 in
+        asc-map (λ h o. Behind h o × (p h ≡ true) × (p o ≡ true)) Sooner (rowOf t now)
+        (λ h o r. inr (refl, inr (f (codeAt t h (now h)) (r .1) ∙ sym (f (codeAt t o (now o)) (r .2)), apart h o (r .0) (r .1) (r .2))))
+        (keep p hs) (asc-with Behind (λ h. p h ≡ true) (keep p hs) (asc-keep Behind p hs b) code)
 
-    by-turn : (m n : ℕ) → turn m < turn n → (a b : Row) → In a (of m) → In b (of n) → Sooner a b
-    by-turn m n l a b i j =
-        let x = of-code m a i in
-        let y = of-code n b j in
-        inr (x .0 ∙ sym (y .0), inl (subst (λ k. turn k < turn (b .code)) (sym (x .1)) (subst (λ k. turn m < turn k) (sym (y .1)) l)))
+    by-turn : (kind after : ℕ → Bool) (m n : ℕ) → Turn kind m → Turn after n → m < n → (a b : Row) → In a (of kind) → In b (of after) → Sooner a b
+    by-turn kind after m n f g l a b i j =
+        let x = of-kind kind m f a i in
+        let y = of-kind after n g b j in
+        inr (x .0 ∙ sym (y .0), inl (omega (arith, x .1, y .1)))
+
+    first : Turn ending 0
+    first code e = rw e
+
+    second-turn : Turn superseded 1
+    second-turn code e = ap turn (eqb-true code 7 e)
+
+    third : Turn starting 2
+    third code e = ap turn (eqb-true code 2 e)
 
     moment-times : All (λ r. r .time ≡ t) (rowsFrom t now hs)
     moment-times r m = ap (λ r. r .time) (moment-by t now hs r m .3)
@@ -80,9 +93,11 @@ module _ (t : ℕ) (now : Entry → Holding) where
     moment-order : Pairwise Behind hs → Pairwise Sooner (rowsFrom t now hs)
     unfolding rowsFrom
     moment-order b =
-        asc-append Sooner (of 3) (of 7 ++ of 2) (by-id 3 two-ends b)
-        (asc-append Sooner (of 7) (of 2) (by-id 7 two-losses b) (by-id 2 two-starts b) (λ x i y j. by-turn 7 2 (omega arith) x y i j))
-        (λ x i y j. ⊎-elim (by-turn 3 7 (omega arith) x y i) (by-turn 3 2 (omega arith) x y i) (in-append y (of 7) (of 2) j))
+        asc-append Sooner (of ending) (of superseded ++ of starting) (by-id ending 0 first two-ends b)
+        (asc-append Sooner (of superseded) (of starting) (by-id superseded 1 second-turn two-losses b) (by-id starting 2 third two-starts b)
+        (λ x i y j. by-turn superseded starting 1 2 second-turn third (omega arith) x y i j))
+        (λ x i y j. ⊎-elim (by-turn ending superseded 0 1 first second-turn (omega arith) x y i) (by-turn ending starting 0 2 first third (omega arith) x y i)
+        (in-append y (of superseded) (of starting) j))
 
 -- From a schedule on.
 

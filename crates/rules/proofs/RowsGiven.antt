@@ -4,17 +4,17 @@ use mathlib.Core.Logic.{_↔_, _⊎_, inl, inr, ⊎-elim}
 use Prim.Native.Nat.{ℕ, zero, suc, _<_}
 use native.Mathlib.Nat.{eq-or-lt-of-le}
 use native.Mathlib.Omega.{arith}
-use mathlib.Core.Bool.{Bool, false}
+use mathlib.Core.Bool.{Bool, true, false}
 use mathlib.Core.List.{List, _++_, map}
-use lib.Dec.{eqb}
-use borrow.Author.Tests.{eqb-true, eqb-false, eq-eqb}
+use borrow.Author.Tests.{eq-eqb}
 use Rattle.rules.specs.declared.Entry.{Entry}
 use Rattle.rules.specs.declared.Program.{Program}
 use Rattle.rules.specs.Lists.{keep, In}
 use Rattle.rules.specs.Holding.{Holding, holdingAt}
-use Rattle.rules.specs.Rows.{Row, codeAt, rowOf, rowsWith, rowsFrom, rowsAt}
+use Rattle.rules.specs.Rows.{Row, codeAt, rowOf, rowsWith, rowsFrom, rowsAt, ending, superseded, starting}
 use Rattle.rules.specs.Schedules.{Timed, holding, seen, rowsTo}
 use Rattle.rules.specs.Clauses.{codeGiven, rowGiven}
+use Rattle.rules.proofs.Tests.{both}
 use Rattle.rules.proofs.ListLaws.{in-keep, keep-in, in-map, map-in, in-append, append-in}
 use Rattle.rules.proofs.CodeLaws.{one-of-four}
 
@@ -24,43 +24,44 @@ module _ (t : ℕ) (now : Entry → Holding) (hs : List Entry) where
   abbrev code : Entry → ℕ
   code h = codeAt t h (now h)
 
-  -- the rows of one code
-  abbrev of : ℕ → List Row
-  of n = rowsWith t now hs (λ c. eqb c n)
+  -- the rows of one kind
+  abbrev of : (ℕ → Bool) → List Row
+  of kind = rowsWith t now hs kind
 
   -- an entry that gives a row, and the row
   abbrev By : Row → Type 0
   By r = (h : Entry) × In h hs × (code h ≡ 0 → ⊥) × (r ≡ rowOf t now h)
 
-  of-by : (n : ℕ) (r : Row) → eqb n 0 ≡ false → In r (of n) → By r
+  of-by : (kind : ℕ → Bool) (r : Row) → kind 0 ≡ false → In r (of kind) → By r
   unfolding rowsWith
-  of-by n r d m =
-      let p : Entry → Bool = λ h. eqb (code h) n in
+  of-by kind r d m =
+      let p : Entry → Bool = λ h. kind (code h) in
       let q = in-map (rowOf t now) r (keep p hs) m in
       let k = in-keep p (q .0) hs (q .1) in
-      (q .0, k .0, λ z. eqb-false n 0 d (sym (eqb-true (code (q .0)) n (k .1)) ∙ z), q .2)
+      (q .0, k .0, λ z. both (kind 0) (sym (ap kind z) ∙ k .1) d, q .2)
 
-  by-of : (n : ℕ) (h : Entry) → In h hs → code h ≡ n → In (rowOf t now h) (of n)
+  by-of : (kind : ℕ → Bool) (h : Entry) → In h hs → kind (code h) ≡ true → In (rowOf t now h) (of kind)
   unfolding rowsWith
-  by-of n h m e = let p : Entry → Bool = λ h. eqb (code h) n in map-in (rowOf t now) h (keep p hs) (keep-in p h hs m (eq-eqb (code h) n e))
+  by-of kind h m e = let p : Entry → Bool = λ h. kind (code h) in map-in (rowOf t now) h (keep p hs) (keep-in p h hs m e)
 
   pub moment-by : (r : Row) → In r (rowsFrom t now hs) → By r
   unfolding rowsFrom
   moment-by r m =
-      ⊎-elim (of-by 3 r refl) (λ i. ⊎-elim (of-by 7 r refl) (of-by 2 r refl) (in-append r (of 7) (of 2) i)) (in-append r (of 3) (of 7 ++ of 2) m)
+      ⊎-elim (of-by ending r refl) (λ i. ⊎-elim (of-by superseded r refl) (of-by starting r refl) (in-append r (of superseded) (of starting) i))
+      (in-append r (of ending) (of superseded ++ of starting) m)
 
   by-moment : (h : Entry) → In h hs → (code h ≡ 0 → ⊥) → In (rowOf t now h) (rowsFrom t now hs)
   unfolding rowsFrom
-  by-moment h m d = append-in r (of 3) (of 7 ++ of 2) (go (one-of-four t h (now h)))
+  by-moment h m d = append-in r (of ending) (of superseded ++ of starting) (go (one-of-four t h (now h)))
     where
       r : Row
       r = rowOf t now h
 
-      go : (code h ≡ 0) ⊎ ((code h ≡ 2) ⊎ ((code h ≡ 3) ⊎ (code h ≡ 7))) → In r (of 3) ⊎ In r (of 7 ++ of 2)
+      go : (code h ≡ 0) ⊎ ((code h ≡ 2) ⊎ ((ending (code h) ≡ true) ⊎ (code h ≡ 7))) → In r (of ending) ⊎ In r (of superseded ++ of starting)
       go (inl e) = absurd (d e)
-      go (inr (inl e)) = inr (append-in r (of 7) (of 2) (inr (by-of 2 h m e)))
-      go (inr (inr (inl e))) = inl (by-of 3 h m e)
-      go (inr (inr (inr e))) = inr (append-in r (of 7) (of 2) (inl (by-of 7 h m e)))
+      go (inr (inl e)) = inr (append-in r (of superseded) (of starting) (inr (by-of starting h m (eq-eqb (code h) 2 e))))
+      go (inr (inr (inl e))) = inl (by-of ending h m e)
+      go (inr (inr (inr e))) = inr (append-in r (of superseded) (of starting) (inl (by-of superseded h m (eq-eqb (code h) 7 e))))
 
 -- Of a history.
 

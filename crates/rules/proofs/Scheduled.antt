@@ -20,14 +20,14 @@ use Rattle.rules.specs.Moments.{passed}
 use Rattle.rules.specs.Bytes.{bytes, rowSize}
 use Rattle.rules.specs.Sound.{malformed, sameEvent}
 use Rattle.rules.specs.Refusals.{firstOf, find, late, programChecks, eventChecks, clockChecks}
-use Rattle.rules.specs.Calls.{program, event, cancellation, question, Call, bare, setClock, list, programOf, receive, withEntries, mark, does, checks, accepts, accepted, refused, Outcome, call, run, written, joined}
-use Rattle.rules.specs.History.{Added, Brought, History, noHistory, broughtId, known, bring, cancelBrought, note, acceptedCalls, historyFrom, historyOf}
+use Rattle.rules.specs.Calls.{program, event, cancellation, decision, question, Call, bare, setClock, list, programOf, receive, withEntries, mark, decide, does, checks, accepts, accepted, refused, Outcome, call, run, written, joined}
+use Rattle.rules.specs.History.{Added, Brought, History, noHistory, broughtId, known, bring, cancelBrought, chooseBrought, note, acceptedCalls, historyFrom, historyOf}
 use Rattle.rules.specs.Schedules.{Timed, timed, living, seen, rowsTo, heldEvents, programsOf, timesOf, stateAt, stateOf, rowsOf}
 use Rattle.rules.proofs.Tests.{both, either-false, first-not}
 use Rattle.rules.proofs.ListLaws.{in-keep, in-map, map-in, insert-map}
-use Rattle.rules.proofs.Local.{timedId, cancelTimed, rows-deliver, rows-cancel, rows-program}
-use Rattle.rules.proofs.Second.{past-on, advance-state, advance-rows}
-use Rattle.rules.proofs.Kept.{Kept, ends, begins-later, late-not, over-before, new, kept-deliver, entries-deliver, kept-cancel, entries-cancel, kept-program, ranked, entries-program}
+use Rattle.rules.proofs.Local.{timedId, cancelTimed, cancel-before, chooseTimed, choose-before, rows-deliver, rows-change, rows-program}
+use Rattle.rules.proofs.Second.{heard-on, advance-state, advance-rows}
+use Rattle.rules.proofs.Kept.{Kept, ends, begins-later, late-not, over-before, new, kept-deliver, entries-deliver, kept-cancel, entries-cancel, kept-choose, entries-choose, kept-program, ranked, entries-program}
 use Rattle.rules.proofs.RowBytes.{bytes-append, bytes-read}
 use Rattle.rules.proofs.SoundState.{Sound, same-event}
 use Rattle.rules.proofs.SoundKept.{sound-does, sound-fresh, refusal-pad, call-pad}
@@ -132,7 +132,7 @@ module _ (H : History) (v : Inv H) where
       let r7 = first-not 7 (malformed e) _ refl (r6 .1) in
       let r9 = first-not 9 (late c e) _ refl (r7 .1) in
       let added = not-false (programAt ps (e .program) .added) (r6 .0) in
-      let times = insert-map broughtId timedId timed (λ x. refl) (record { event = e; receipt = c; cancelled = none }) (H .brought) in
+      let times = insert-map broughtId timedId timed (λ x. refl) (record { event = e; receipt = c; cancelled = none; choices = [] }) (H .brought) in
       rw (new-unknown e f (r9 .0))
       (record {
         state = ap (λ hs. record { clock = c; programs = ps; entries = hs })
@@ -147,8 +147,17 @@ module _ (H : History) (v : Inv H) where
       let times = map-map timed (cancelBrought i c) (H .brought) ∙ sym (map-map (cancelTimed i c) timed (H .brought)) in
       record {
         state = ap (λ hs. record { clock = c; programs = ps; entries = hs }) (sym (entries-cancel ps ts c (v .kept) i)) ∙ ap (λ l. stateAt ps l c) (sym times);
-        rows = append-nil (bytes (rowsOf H)) ∙ ap bytes (sym (rows-cancel ps i c ts c (omega arith)) ∙ ap (λ l. rowsTo ps l c) (sym times));
+        rows = append-nil (bytes (rowsOf H)) ∙ ap bytes (sym (rows-change ps (cancelTimed i c) c (cancel-before i c) ts c (omega arith)) ∙ ap (λ l. rowsTo ps l c) (sym times));
         inv = record { kept = rw times (kept-cancel ps ts c (v .kept) i); numbered = v .numbered };
+      }
+
+  next-choose : (i : ℕ) (out : Bool) → Next H (withEntries (stateOf H) (map (decide i out) (heldEvents ps ts c))) [] (record { programs = H .programs; brought = map (chooseBrought i out c) (H .brought); last = c })
+  next-choose i out =
+      let times = map-map timed (chooseBrought i out c) (H .brought) ∙ sym (map-map (chooseTimed i out c) timed (H .brought)) in
+      record {
+        state = ap (λ hs. record { clock = c; programs = ps; entries = hs }) (sym (entries-choose ps ts c (v .kept) i out)) ∙ ap (λ l. stateAt ps l c) (sym times);
+        rows = append-nil (bytes (rowsOf H)) ∙ ap bytes (sym (rows-change ps (chooseTimed i out c) c (choose-before i out c) ts c (omega arith)) ∙ ap (λ l. rowsTo ps l c) (sym times));
+        inv = record { kept = rw times (kept-choose ps ts c (v .kept) i out); numbered = v .numbered };
       }
 
   next-clock : (t : ℕ) (b : List ℕ) → c ≤ t
@@ -164,7 +173,7 @@ module _ (H : History) (v : Inv H) where
           kept = record {
             ascending = v .kept .ascending;
             proper = v .kept .proper;
-            past = λ x m. past-on c t l (x .cancelled) (v .kept .past x m);
+            past = λ x m. heard-on c t l x (v .kept .past x m);
             added = v .kept .added;
           };
           numbered = v .numbered;
@@ -180,6 +189,7 @@ module _ (H : History) (v : Inv H) where
   next-accepted (bare (program n p d)) ok = next-program n p d ok
   next-accepted (bare (event e)) ok = next-deliver e (find (idOf e) (heldEvents ps ts c)) refl ok
   next-accepted (bare (cancellation i)) ok = next-cancel i
+  next-accepted (bare (decision i out)) ok = next-choose i out
   next-accepted (bare (question k)) ok = stay H v
   next-accepted (setClock t b) ok = next-clock t b (reached t (length (passed (stateOf H) t .rows)) (length b) ok)
   next-accepted (list r) ok = stay H v

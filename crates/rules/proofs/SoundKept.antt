@@ -2,7 +2,7 @@
 use mathlib.Core.Path.{_≡_, refl, sym, ap, _∙_, subst}
 use mathlib.Core.Logic.{⊎-elim}
 use Prim.Native.Nat.{ℕ, zero, suc, _+_, _-_, _<_, _≤_}
-use mathlib.Core.Bool.{Bool, true, false, cond, not, _||_}
+use mathlib.Core.Bool.{Bool, true, false, cond, not, _||_, _&&_, or-true}
 use mathlib.Core.List.{List, [], _∷_, map}
 use mathlib.Core.Option.{Option, none, some}
 use mathlib.Core.Logic.{inl, inr}
@@ -10,17 +10,17 @@ use native.Mathlib.Omega.{arith}
 use lib.Dec.{ltb, leb, eqb}
 use lib.ListN.{set, length, length-map, length-set}
 use lib.Seq.{getD-set-other}
-use borrow.Author.Tests.{ltb-true, ltb-false, leb-false, not-false}
+use borrow.Author.Tests.{ltb-true, ltb-false, leb-false, ne-eqb, not-false}
 use Rattle.rules.specs.declared.Event.{Event}
 use Rattle.rules.specs.declared.Entry.{Entry}
 use Rattle.rules.specs.declared.Schedule.{Schedule}
 use Rattle.rules.specs.Lists.{keep, In, All, Pairwise}
 use Rattle.rules.specs.Records.{State, idOf, usable, has, mostEvents, lastClock, noProgram, programAt, fresh, view, pad}
-use Rattle.rules.specs.Holding.{rankOf, better, claim, holdingAt, withHolding, endOf}
+use Rattle.rules.specs.Holding.{rankOf, better, claim, heldAt, carry, holdingAt, withHolding, endOf}
 use Rattle.rules.specs.Moments.{lasts, entriesFrom, second, advance, passed}
-use Rattle.rules.specs.Sound.{malformed, sound}
+use Rattle.rules.specs.Sound.{malformed, anyCounted, sound}
 use Rattle.rules.specs.Refusals.{firstOf, find, late, programChecks, eventChecks, clockChecks}
-use Rattle.rules.specs.Calls.{program, event, cancellation, question, Call, bare, setClock, list, entryId, entry, mark, receive, withEntries, programOf, does, checks, refusal, accepts, accepted, refused, call}
+use Rattle.rules.specs.Calls.{program, event, cancellation, decision, question, Call, bare, setClock, list, entryId, entry, mark, decide, receive, withEntries, programOf, does, checks, refusal, accepts, accepted, refused, call}
 use Rattle.rules.specs.Arrival.{Apart}
 use Rattle.rules.proofs.Tests.{both, either-false, first-not}
 use Rattle.rules.proofs.ListLaws.{in-keep, all-map, in-insert, asc-insert, asc-keep, asc-map, asc-weaken, keep-length, insert-length, in-set, in-replicate}
@@ -30,6 +30,24 @@ use Rattle.rules.proofs.Kept.{begins-from, late-not, begins-proper, fin
 use Rattle.rules.proofs.Ranks.{better-one}
 use Rattle.rules.proofs.Holders.{taken-has, if-held}
 use Rattle.rules.proofs.SoundState.{SoundEntry, ById, Sound, view-pad, sound-pad, sound-view}
+
+-- Marks of choices.
+
+either-true : (a b : Bool) → b ≡ true → (a || b) ≡ true
+either-true a b e = rw (e, or-true)
+
+-- where nothing is held no mark is set
+still-uncounted : (h : Entry) (m : ℕ) → m ≡ 0 → anyCounted (h .choice) ≡ false → anyCounted (withHolding h (carry h m) .choice) ≡ false
+still-uncounted h m z e = let r = either-false (h .choice .«was_in») (h .choice .«was_out») e in rw (z, r .0, r .1)
+
+-- where something is held one is
+now-counted : (h : Entry) (m : ℕ) → (m ≡ 0 → ⊥) → anyCounted (withHolding h (carry h m) .choice) ≡ true
+now-counted h m f = rw (ne-eqb m 0 f) (go (h .choice .«was_in») (h .choice .«was_out») (h .choice .out))
+  where
+    go : (a b o : Bool) → ((a || (true && not o)) || (b || (true && o))) ≡ true
+    go true b o = refl
+    go false b true = either-true b true refl
+    go false b false = refl
 
 -- A second.
 
@@ -83,6 +101,8 @@ module _ (s : State) (v : Sound s) (l : suc (s .clock) ≤ lastClock) where
         within = λ k e. claim-within h r k (if-held (s .programs) t (s .entries) k h e .0);
         early = λ b. nothing-held (s .programs) t (s .entries) h (claim-early t h b);
         stopped = λ e. nothing-held (s .programs) t (s .entries) h (claim-cancelled t h e);
+        uncounted = λ b. still-uncounted h (heldAt (s .programs) t (s .entries) h) (nothing-held (s .programs) t (s .entries) h (claim-early t h b)) (r .uncounted (omega arith));
+        counts = λ f. now-counted h (heldAt (s .programs) t (s .entries) h) f;
       }
 
 pub sound-advance : (n : ℕ) (s : State) → Sound s → s .clock + n ≤ lastClock → Sound (advance n s .state)
@@ -115,6 +135,8 @@ module _ (s : State) (v : Sound s) where
           within = q .within;
           early = q .early;
           stopped = q .stopped;
+          uncounted = q .uncounted;
+          counts = q .counts;
         };
         apart = v .apart;
       }
@@ -146,6 +168,8 @@ module _ (s : State) (v : Sound s) where
               within = λ k d. not-has 0 k refl d;
               early = λ l. refl;
               stopped = λ d. refl;
+              uncounted = λ l. refl;
+              counts = λ f. absurd (f refl);
             }))
             (λ n. v .entries h n) (in-insert entryId new h (s .entries) m);
         apart = asc-insert entryId new Apart (s .entries) (v .apart) (λ x m l k p q. not-has 0 k refl q) (λ x m l k p q. not-has 0 k refl p) (asc-weaken ById (λ x y. entryId x ≤ entryId y) (λ x y l. omega arith) (s .entries) (v .ids));
@@ -171,6 +195,8 @@ module _ (s : State) (v : Sound s) where
       within = λ k e. q .within k (has-either (eqb (entryId h) i) (h .held) k e);
       early = λ l. none-left (eqb (entryId h) i) (h .held) (q .early l);
       stopped = λ e. gone (eqb (entryId h) i) (h .cancelled) (h .held) (q .stopped) e;
+      uncounted = q .uncounted;
+      counts = λ f. q .counts (λ z. f (none-left (eqb (entryId h) i) (h .held) z));
     });
     apart = asc-map Apart Apart (mark i) (λ x y a k e d. a k (has-either (eqb (entryId x) i) (x .held) k e) (has-either (eqb (entryId y) i) (y .held) k d)) (s .entries) (v .apart);
   }
@@ -182,6 +208,29 @@ module _ (s : State) (v : Sound s) where
       gone : (b c : Bool) (m : ℕ) → (c ≡ true → m ≡ 0) → (b || c) ≡ true → cond b 0 m ≡ 0
       gone true c m f e = refl
       gone false c m f e = f e
+
+  pub sound-choose : (i : ℕ) (out : Bool) → Sound (withEntries s (map (decide i out) (s .entries)))
+  sound-choose i out = record {
+    clock = v .clock;
+    eight = v .eight;
+    programs = v .programs;
+    room = omega (arith, length-map (s .entries) (decide i out), v .room);
+    ids = asc-map ById ById (decide i out) (λ x y b. b) (s .entries) (v .ids);
+    entries = all-map (SoundEntry (s .programs) (s .clock)) (decide i out) (s .entries) (λ h m. let q = v .entries h m in record {
+      numbered = q .numbered;
+      added = q .added;
+      well = q .well;
+      from = q .from;
+      short = q .short;
+      lasts = q .lasts;
+      within = q .within;
+      early = q .early;
+      stopped = q .stopped;
+      uncounted = q .uncounted;
+      counts = q .counts;
+    });
+    apart = asc-map Apart Apart (decide i out) (λ x y a. a) (s .entries) (v .apart);
+  }
 
   sound-clock : (t rows room : ℕ) → eqb (firstOf (clockChecks (s .clock) t rows room)) 0 ≡ true → Sound (passed s t .state)
   unfolding clockChecks
@@ -195,6 +244,7 @@ module _ (s : State) (v : Sound s) where
   sound-does (bare (program n p d)) ok = sound-program n p d ok
   sound-does (bare (event e)) ok = sound-deliver e (find (idOf e) (s .entries)) refl ok
   sound-does (bare (cancellation i)) ok = sound-cancel i
+  sound-does (bare (decision i out)) ok = sound-choose i out
   sound-does (bare (question c)) ok = v
   sound-does (setClock t b) ok = sound-clock t (length (passed s t .rows)) (length b) ok
   sound-does (list r) ok = v

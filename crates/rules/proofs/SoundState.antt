@@ -7,7 +7,7 @@ use native.Mathlib.Omega.{arith}
 use lib.Dec.{leb, ltb, eqb}
 use lib.ListN.{length, take, drop, replicate, take-append-drop, length-append, length-drop, length-take, length-replicate}
 use lib.Seq.{take-append-seam, drop-append-seam}
-use borrow.Author.Tests.{le-leb, leb-true, leb-false, lt-ltb, ltb-true, eq-eqb, eqb-true, not-true}
+use borrow.Author.Tests.{le-leb, leb-true, leb-false, lt-ltb, ltb-true, eq-eqb, ne-eqb, eqb-true, eqb-false, not-true}
 use Rattle.rules.specs.declared.Event.{Event}
 use Rattle.rules.specs.declared.Entry.{Entry}
 use Rattle.rules.specs.declared.Program.{Program}
@@ -16,10 +16,10 @@ use Rattle.rules.specs.Lists.{each, pairs, All, Pairwise}
 use Rattle.rules.specs.Records.{State, idOf, usable, has, cut, mostEvents, lastClock, noProgram, noEvent, noEntry, programAt, view, pad}
 use Rattle.rules.specs.Period.{drawnStart}
 use Rattle.rules.specs.Holding.{endOf}
-use Rattle.rules.specs.Sound.{malformed, sameEvent, whole, withinLimits, soundProgram, unused, ascending, ofProgram, wellFormed, inPeriod, lasting, carried, heldSinceStart, noneIfCancelled, apart, soundEntry, sound}
+use Rattle.rules.specs.Sound.{malformed, sameEvent, whole, withinLimits, soundProgram, unused, ascending, ofProgram, wellFormed, inPeriod, lasting, carried, heldSinceStart, noneIfCancelled, anyCounted, countedSinceStart, countedIfHeld, apart, soundEntry, sound}
 use Rattle.rules.specs.Calls.{entryId}
 use Rattle.rules.specs.Arrival.{Apart, OneHolder}
-use Rattle.rules.proofs.Tests.{each-true}
+use Rattle.rules.proofs.Tests.{either-false, each-true}
 use Rattle.rules.proofs.IdLaws.{same-id}
 use Rattle.rules.proofs.ListLaws.{each-all, all-each, pairs-pairwise, pairwise-pairs, replicated}
 use Rattle.rules.proofs.Masks.{cut-apart, apart-cut, cut-within, within-cut}
@@ -35,6 +35,8 @@ pub record SoundEntry (ps : List Program) (clock : ℕ) (h : Entry) : Type 0 whe
   pub within : (k : ℕ) → has (h .held) k ≡ true → has (h .event .controls) k ≡ true
   pub early : clock < h .begins → h .held ≡ 0
   pub stopped : h .cancelled ≡ true → h .held ≡ 0
+  pub uncounted : clock < h .begins → anyCounted (h .choice) ≡ false
+  pub counts : (h .held ≡ 0 → ⊥) → anyCounted (h .choice) ≡ true
 
 pub record SoundProgram (p : Program) : Type 0 where
   pub used : p .added ≡ true → usable (p .primacy) ≡ true
@@ -68,7 +70,7 @@ unused-true zero = refl
 unused-true (suc n) = rw (eq-eqb (idOf noEvent) (idOf noEvent) refl) (unused-true n)
 
 entry-true : (ps : List Program) (c : ℕ) (h : Entry) → SoundEntry ps c h → soundEntry ps c h ≡ true
-unfolding soundEntry ofProgram wellFormed inPeriod lasting carried heldSinceStart noneIfCancelled
+unfolding soundEntry ofProgram wellFormed inPeriod lasting carried heldSinceStart noneIfCancelled countedSinceStart countedIfHeld
 entry-true ps c h v =
     rw (
       le-leb (h .event .program) 7 (v .numbered),
@@ -79,8 +81,17 @@ entry-true ps c h v =
       lt-ltb c (endOf h) (v .lasts),
       eq-eqb (cut (h .held) (h .event .controls)) 0 (cut-within (h .held) (h .event .controls) (v .within)),
     )
-    (ap₂ _&&_ (early (leb (h .begins) c) refl) (stopped (h .cancelled) refl))
+    (ap₂ _&&_ (early (leb (h .begins) c) refl)
+    (ap₂ _&&_ (stopped (h .cancelled) refl) (ap₂ _&&_ (uncounted (leb (h .begins) c) refl) (counts (eqb (h .held) 0) refl))))
   where
+    uncounted : (b : Bool) → leb (h .begins) c ≡ b → (b || not (anyCounted (h .choice))) ≡ true
+    uncounted true e = refl
+    uncounted false e = ap not (v .uncounted (leb-false (h .begins) c e))
+
+    counts : (b : Bool) → eqb (h .held) 0 ≡ b → (b || anyCounted (h .choice)) ≡ true
+    counts true e = refl
+    counts false e = v .counts (eqb-false (h .held) 0 e)
+
     early : (b : Bool) → leb (h .begins) c ≡ b → (b || eqb (h .held) 0) ≡ true
     early true e = refl
     early false e = eq-eqb (h .held) 0 (v .early (leb-false (h .begins) c e))
@@ -132,14 +143,16 @@ true-program p e = record { used = λ a. rw a at e; unused = λ a. none a }
         λ i. record { added = a i; primacy = eqb-true (p .primacy) 0 (r .0) i; defaults = eqb-true (p .defaults) 0 (r .1) i }
 
 true-entry : (ps : List Program) (c : ℕ) (h : Entry) → soundEntry ps c h ≡ true → SoundEntry ps c h
-unfolding soundEntry ofProgram wellFormed inPeriod lasting carried heldSinceStart noneIfCancelled
+unfolding soundEntry ofProgram wellFormed inPeriod lasting carried heldSinceStart noneIfCancelled countedSinceStart countedIfHeld
 true-entry ps c h e =
     let r1 = each-true (ofProgram ps h) _ e in
     let r2 = each-true (wellFormed h) _ (r1 .1) in
     let r3 = each-true (inPeriod h) _ (r2 .1) in
     let r4 = each-true (lasting c h) _ (r3 .1) in
     let r5 = each-true (carried h) _ (r4 .1) in
-    let r6 = each-true (heldSinceStart c h) (noneIfCancelled h) (r5 .1) in
+    let r6 = each-true (heldSinceStart c h) _ (r5 .1) in
+    let r7 = each-true (noneIfCancelled h) _ (r6 .1) in
+    let r8 = each-true (countedSinceStart c h) (countedIfHeld h) (r7 .1) in
     let p = each-true (leb (h .event .program) 7) (programAt ps (h .event .program) .added) (r1 .0) in
     let q = each-true (leb (drawnStart (h .event)) (h .begins)) (ltb (h .begins) (endOf h)) (r3 .0) in
     record {
@@ -151,9 +164,15 @@ true-entry ps c h e =
       lasts = ltb-true c (endOf h) (r4 .0);
       within = within-cut (h .held) (h .event .controls) (eqb-true (cut (h .held) (h .event .controls)) 0 (r5 .0));
       early = λ l. early (leb (h .begins) c) refl (r6 .0) l;
-      stopped = λ d. eqb-true (h .held) 0 (rw d at (r6 .1));
+      stopped = λ d. eqb-true (h .held) 0 (rw d at (r7 .0));
+      uncounted = λ l. uncounted (leb (h .begins) c) refl (r8 .0) l;
+      counts = λ f. rw (ne-eqb (h .held) 0 f) at (r8 .1);
     }
   where
+    uncounted : (b : Bool) → leb (h .begins) c ≡ b → (b || not (anyCounted (h .choice))) ≡ true → c < h .begins → anyCounted (h .choice) ≡ false
+    uncounted true p q l = absurd (omega (arith, leb-true (h .begins) c p))
+    uncounted false p q l = not-true (anyCounted (h .choice)) q
+
     early : (b : Bool) → leb (h .begins) c ≡ b → (b || eqb (h .held) 0) ≡ true → c < h .begins → h .held ≡ 0
     early true p q l = absurd (omega (arith, leb-true (h .begins) c p))
     early false p q l = eqb-true (h .held) 0 q
@@ -196,12 +215,16 @@ unfolding unused
 true-unused h e =
     let r1 = each-true (sameEvent (h .event) noEvent) _ e in
     let r2 = each-true (eqb (h .begins) 0) _ (r1 .1) in
-    let r3 = each-true (eqb (h .held) 0) (not (h .cancelled)) (r2 .1) in
+    let r3 = each-true (eqb (h .held) 0) _ (r2 .1) in
+    let r4 = each-true (not (h .cancelled)) _ (r3 .1) in
+    let r5 = each-true (not (h .choice .out)) (not (anyCounted (h .choice))) (r4 .1) in
+    let w = either-false (h .choice .«was_in») (h .choice .«was_out») (not-true (anyCounted (h .choice)) (r5 .1)) in
     λ i. record {
       event = same-event (h .event) noEvent (r1 .0) i;
       begins = eqb-true (h .begins) 0 (r2 .0) i;
       held = eqb-true (h .held) 0 (r3 .0) i;
-      cancelled = not-true (h .cancelled) (r3 .1) i;
+      cancelled = not-true (h .cancelled) (r4 .0) i;
+      choice = record { out = not-true (h .choice .out) (r5 .0) i; «was_in» = w .0 i; «was_out» = w .1 i };
     }
 
 -- the rules, one by one, of a schedule that passes the test

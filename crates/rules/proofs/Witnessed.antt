@@ -6,13 +6,13 @@ use mathlib.Core.List.{List}
 use Rattle.rules.specs.Records.{idNumber, idFrom, usable, has, cut, join, fresh}
 use Rattle.rules.specs.Period.{drawnStart, effectiveEnd, effectiveStart, earliestStart}
 use Rattle.rules.specs.Holding.{key, better, claim, taken, heldAt, holdingAt}
-use Rattle.rules.specs.Rows.{codeAt, rowsWith, rowsFrom, rowsAt}
+use Rattle.rules.specs.Rows.{endCode, codeAt, rowsWith, rowsFrom, rowsAt}
 use Rattle.rules.specs.Moments.{entriesFrom, second, advance}
 use Rattle.rules.specs.Bytes.{big, read, flat, many, rowBytes, eventAt, eventBytes, entryBytes, entryAt}
-use Rattle.rules.specs.Sound.{outOfRange, malformed, sameEvent, whole, withinLimits, soundProgram, unused, ascending, ofProgram, wellFormed, inPeriod, lasting, carried, heldSinceStart, noneIfCancelled, apart, soundEntry, sound}
+use Rattle.rules.specs.Sound.{outOfRange, malformed, sameEvent, whole, withinLimits, soundProgram, unused, ascending, ofProgram, wellFormed, inPeriod, lasting, carried, heldSinceStart, noneIfCancelled, countedSinceStart, countedIfHeld, apart, soundEntry, sound}
 use Rattle.rules.specs.Image.{programBytes, programFrom, image, loaded, marked, formed, imaged}
 use Rattle.rules.specs.ImageTable.{rulesHold, ruleTable, bytesHold, sizesHold, formsHold, formTable, refusedImages, numbersHold, numberTable, ImageTables}
-use Rattle.rules.specs.Refusals.{find, late, programChecks, eventChecks, cancelChecks, clockChecks, askChecks, listChecks}
+use Rattle.rules.specs.Refusals.{find, late, programChecks, eventChecks, heldChecks, clockChecks, askChecks, listChecks}
 use Rattle.rules.specs.Calls.{bestDefault, holderIn, answerFor, does, checks, refusal, call}
 use Rattle.rules.specs.Frames.{digit, paired, unhex, isFrame, frameOf, lineOf}
 use Rattle.rules.specs.Printed.{linesOf, decimal, rowsText, output}
@@ -34,7 +34,7 @@ unfolding linesHold lineTable digit paired unhex isFrame frameOf lineOf read eve
 lines-evaluate = refl
 
 calls-evaluate : scriptsHold (quickReplies fresh) callTable ≡ true
-unfolding scriptsHold callTable quickReplies quickCall quickChecks quickDoes jumps nextMoment idleFor advance second entriesFrom rowsAt rowsFrom rowsWith codeAt holdingAt heldAt taken claim better key drawnStart effectiveEnd effectiveStart earliestStart usable has cut join big flat rowBytes outOfRange malformed sameEvent find late programChecks eventChecks cancelChecks clockChecks askChecks listChecks bestDefault holderIn answerFor does checks idNumber idFrom
+unfolding scriptsHold callTable quickReplies quickCall quickChecks quickDoes jumps nextMoment idleFor advance second entriesFrom rowsAt rowsFrom rowsWith endCode codeAt holdingAt heldAt taken claim better key drawnStart effectiveEnd effectiveStart earliestStart usable has cut join big flat rowBytes outOfRange malformed sameEvent find late programChecks eventChecks heldChecks clockChecks askChecks listChecks bestDefault holderIn answerFor does checks idNumber idFrom
 calls-evaluate = refl
 
 answers-evaluate : answersHold ≡ true
@@ -45,7 +45,7 @@ pub call-tables : CallTables
 call-tables = record { scripts = ap (λ see. scriptsHold see callTable) (sym (fun-ext (quick-replies fresh sound-fresh))) ∙ calls-evaluate; numbers = answers-evaluate }
 
 texts-evaluate : same (quickTellAll fresh (linesOf textInput)) textOutput ≡ true
-unfolding linesOf decimal rowsText digit paired unhex isFrame frameOf lineOf read eventAt textInput textOutput quickTellAll quickTellFrame quickCall quickChecks quickDoes jumps nextMoment idleFor advance second entriesFrom rowsAt rowsFrom rowsWith codeAt holdingAt heldAt taken claim better key drawnStart effectiveEnd effectiveStart usable has cut join big flat rowBytes outOfRange malformed sameEvent find late programChecks eventChecks cancelChecks clockChecks askChecks listChecks bestDefault holderIn answerFor does checks idNumber idFrom
+unfolding linesOf decimal rowsText digit paired unhex isFrame frameOf lineOf read eventAt textInput textOutput quickTellAll quickTellFrame quickCall quickChecks quickDoes jumps nextMoment idleFor advance second entriesFrom rowsAt rowsFrom rowsWith endCode codeAt holdingAt heldAt taken claim better key drawnStart effectiveEnd effectiveStart usable has cut join big flat rowBytes outOfRange malformed sameEvent find late programChecks eventChecks heldChecks clockChecks askChecks listChecks bestDefault holderIn answerFor does checks idNumber idFrom
 texts-evaluate = refl
 
 output-quick : (input : List ℕ) → output input ≡ quickTellAll fresh (linesOf input)
@@ -63,11 +63,11 @@ text-tables =
     }
 
 rules-evaluate : rulesHold ruleTable ≡ true
-unfolding rulesHold ruleTable usable cut drawnStart effectiveEnd outOfRange malformed sameEvent whole withinLimits soundProgram unused ascending ofProgram wellFormed inPeriod lasting carried heldSinceStart noneIfCancelled apart soundEntry sound idNumber idFrom
+unfolding rulesHold ruleTable usable cut drawnStart effectiveEnd outOfRange malformed sameEvent whole withinLimits soundProgram unused ascending ofProgram wellFormed inPeriod lasting carried heldSinceStart noneIfCancelled countedSinceStart countedIfHeld apart soundEntry sound idNumber idFrom
 rules-evaluate = refl
 
 bytes-evaluate : bytesHold ≡ true
-unfolding bytesHold big read flat many rowBytes eventAt eventBytes entryBytes entryAt programBytes programFrom image loaded idNumber idFrom
+unfolding bytesHold has big read flat many rowBytes eventAt eventBytes entryBytes entryAt programBytes programFrom image loaded idNumber idFrom
 bytes-evaluate = refl
 
 sizes-evaluate : sizesHold ≡ true
@@ -79,11 +79,11 @@ unfolding formsHold formTable read marked formed
 forms-evaluate = refl
 
 images-evaluate : refusedImages ≡ true
-unfolding refusedImages read many programFrom eventAt entryAt loaded marked formed imaged whole withinLimits sound idNumber idFrom
+unfolding refusedImages has read many programFrom eventAt entryAt loaded marked formed imaged whole withinLimits sound idNumber idFrom
 images-evaluate = refl
 
 numbers-evaluate : numbersHold numberTable ≡ true
-unfolding numbersHold numberTable call refusal checks does advance usable cut has drawnStart effectiveEnd effectiveStart outOfRange malformed sameEvent find late programChecks eventChecks cancelChecks clockChecks askChecks listChecks bestDefault holderIn answerFor whole withinLimits soundProgram unused ascending ofProgram wellFormed inPeriod lasting carried heldSinceStart noneIfCancelled apart soundEntry sound idNumber idFrom
+unfolding numbersHold numberTable call refusal checks does advance usable cut has drawnStart effectiveEnd effectiveStart outOfRange malformed sameEvent find late programChecks eventChecks heldChecks clockChecks askChecks listChecks bestDefault holderIn answerFor whole withinLimits soundProgram unused ascending ofProgram wellFormed inPeriod lasting carried heldSinceStart noneIfCancelled countedSinceStart countedIfHeld apart soundEntry sound idNumber idFrom
 numbers-evaluate = refl
 
 pub image-tables : ImageTables
@@ -94,12 +94,12 @@ unfolding programsHold
 programs-evaluate = refl
 
 schedules-evaluate : schedulesHold scheduleTable ≡ true
-unfolding schedulesHold scheduleTable holding rowsTo heldEvents rowsAt rowsFrom rowsWith codeAt holdingAt heldAt taken claim better key drawnStart effectiveEnd effectiveStart cut join idNumber idFrom
+unfolding schedulesHold scheduleTable holding rowsTo heldEvents rowsAt rowsFrom rowsWith endCode codeAt holdingAt heldAt taken claim better key drawnStart effectiveEnd effectiveStart cut join idNumber idFrom
 schedules-evaluate = refl
 
 pub schedule-tables : ScheduleTables
 schedule-tables = record { programs = programs-evaluate; cases = schedules-evaluate }
 
 pub moments-evaluate : momentsHold momentTable ≡ true
-unfolding momentsHold momentTable advance second entriesFrom rowsAt rowsFrom rowsWith codeAt holdingAt heldAt taken claim better key drawnStart effectiveEnd cut join idNumber idFrom
+unfolding momentsHold momentTable advance second entriesFrom rowsAt rowsFrom rowsWith endCode codeAt holdingAt heldAt taken claim better key drawnStart effectiveEnd cut join idNumber idFrom
 moments-evaluate = refl

@@ -16,8 +16,8 @@ use Rattle.rules.specs.Rows.{Sooner}
 use Rattle.rules.specs.Bytes.{bytes}
 use Rattle.rules.specs.Refusals.{firstOf}
 use Rattle.rules.specs.Calls.{Call, list, ask, count, holder, Outcome, recordOf, defaultFor, bestDefault, checks, counted, call, run, joined}
-use Rattle.rules.specs.History.{Brought, History, historyOf}
-use Rattle.rules.specs.Schedules.{Timed, timed, programsOf, timesOf, seen, stateOf, rowsOf}
+use Rattle.rules.specs.History.{Chosen, Brought, History, historyOf}
+use Rattle.rules.specs.Schedules.{Timed, timed, outBy, programsOf, timesOf, seen, stateOf, rowsOf}
 
 -- the schedule after a list of calls
 abbrev pub after : List Call → Schedule
@@ -50,6 +50,16 @@ cancellationsIn (b ∷ bs) = cancellation (b .event) (b .cancelled) (cancellatio
 abbrev pub cancellationsOf : History → List Cancellation
 cancellationsOf H = cancellationsIn (H .brought)
 
+-- an event and the choices on it, the last one first
+pub record Choices : Type 0 where
+  pub event : Event
+  pub made : List Chosen
+
+-- Document 02, #102, the choices of a list: by record, not by id; those on one event in their sequence with their clocks. Repeats of the present choice are
+-- left out: lists that differ in them alone meet the premise, so it grants more than one that counts them.
+abbrev pub choicesOf : History → List Choices
+choicesOf H = map (λ b. record { event = b .event; made = b .choices }) (H .brought)
+
 -- each event was first accepted before its drawn start
 abbrev pub InTime : History → Type 0
 InTime H = (b : Brought) → In b (H .brought) → b .receipt < drawnStart (b .event)
@@ -65,6 +75,8 @@ pub record SameArrivals (H K : History) : Type 0 where
   pub in-time-too : InTime K
   -- the same cancellations, each at the same clock reading
   pub cancellations : Same (cancellationsOf H) (cancellationsOf K)
+  -- the same choices on each event, in the same sequence, each at the same clock reading; those on different events in any order
+  pub choices : Same (choicesOf H) (choicesOf K)
   -- the same last clock reading
   pub last : H .last ≡ K .last
 
@@ -81,6 +93,7 @@ pub record SameStarts (H K : History) : Type 0 where
   pub programs : Same (H .programs) (K .programs)
   pub starts : Same (startsOf H) (startsOf K)
   pub cancellations : Same (cancellationsOf H) (cancellationsOf K)
+  pub choices : Same (choicesOf H) (choicesOf K)
   pub last : H .last ≡ K .last
 
 -- What the schedule of a list gives.
@@ -99,10 +112,15 @@ pub record Listed (H : History) (lent : List Record) (o : Outcome) : Type 0 wher
 abbrev pub holdsNow : History → ℕ → Timed → Bool
 holdsNow H c x = has (seen (programsOf (H .programs)) (timesOf H) (H .last) x .held) c
 
--- the answer for a control: the event that holds it, or the default if none does
+-- whether its user is out after the last call
+abbrev pub outNow : History → Timed → Bool
+outNow H x = outBy (H .last) (x .choices)
+
+-- the answer for a control: the event that holds it if its user is in; the default if that one is out, or if none holds it
 pub record Asked (H : History) (c : ℕ) (o : Outcome) : Type 0 where
   pub accepted : o .number ≡ 0
-  pub held : (x : Timed) → In x (timesOf H) → holdsNow H c x ≡ true → o .value ≡ holder (idOf (x .event))
+  pub held : (x : Timed) → In x (timesOf H) → holdsNow H c x ≡ true → outNow H x ≡ false → o .value ≡ holder (idOf (x .event))
+  pub out : (x : Timed) → In x (timesOf H) → holdsNow H c x ≡ true → outNow H x ≡ true → o .value ≡ defaultFor (bestDefault c 0 (programsOf (H .programs)))
   pub free : ((x : Timed) → In x (timesOf H) → holdsNow H c x ≡ false) → o .value ≡ defaultFor (bestDefault c 0 (programsOf (H .programs)))
 
 -- no control is in both held masks

@@ -7,8 +7,9 @@ use lib.ListN.{getD}
 use Rattle.rules.specs.declared.Id.{Id}
 use Rattle.rules.specs.declared.Event.{Event}
 use Rattle.rules.specs.declared.Entry.{Entry}
+use Rattle.rules.specs.declared.Choice.{Choice}
 use Rattle.rules.specs.declared.Record.{Record}
-use Rattle.rules.specs.Records.{idSize, idFrom, idOf, eventOf, mostRows}
+use Rattle.rules.specs.Records.{idSize, idFrom, idOf, eventOf, has, mostRows}
 use Rattle.rules.specs.Rows.{Row}
 
 -- the last n bytes of a number
@@ -70,19 +71,35 @@ flag b = cond b 1 0 ∷ []
 abbrev pub flagAt : ℕ → List ℕ → Bool
 flagAt at l = eqb (read 1 at l) 1
 
--- Frames and image, an event entry: the event, effective start, held mask and mark; how many bytes they are, and where the mark stands
+-- Document 02, #102, the choice byte: bit 0 out now, bit 1 was in for a held second, bit 2 was out for one
+abbrev pub choiceByte : Choice → ℕ
+choiceByte c = cond (c .out) 1 0 + (cond (c .«was_in») 2 0 + cond (c .«was_out») 4 0)
+
+abbrev pub choiceOf : ℕ → Choice
+choiceOf b = record { out = has b 0; «was_in» = has b 1; «was_out» = has b 2 }
+
+-- Frames and image, an event entry: the event, effective start, held mask, mark and choice; how many bytes they are, and where mark and choice stand
 abbrev pub entrySize : ℕ
-entrySize = eventSize + 13
+entrySize = eventSize + 14
 
 abbrev pub markAt : ℕ
 markAt = eventSize + 12
 
+abbrev pub choiceAt : ℕ
+choiceAt = eventSize + 13
+
 unfoldable pub entryBytes : Entry → List ℕ
-entryBytes h = eventBytes (h .event) ++ (big 8 (h .begins) ++ (big 4 (h .held) ++ flag (h .cancelled)))
+entryBytes h = eventBytes (h .event) ++ (big 8 (h .begins) ++ (big 4 (h .held) ++ (flag (h .cancelled) ++ (choiceByte (h .choice) ∷ []))))
 
 unfoldable pub entryAt : ℕ → List ℕ → Entry
 entryAt at l =
-    record { event = eventAt at l; begins = read 8 (at + eventSize) l; held = read 4 (at + (eventSize + 8)) l; cancelled = flagAt (at + markAt) l }
+    record {
+      event = eventAt at l;
+      begins = read 8 (at + eventSize) l;
+      held = read 4 (at + (eventSize + 8)) l;
+      cancelled = flagAt (at + markAt) l;
+      choice = choiceOf (read 1 (at + choiceAt) l);
+    }
 
 -- Frames and image, C hosts, a listed record, and document 02, #101: the entry, and behind it the earliest start; how many bytes they are
 abbrev pub recordSize : ℕ

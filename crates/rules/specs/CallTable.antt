@@ -1,9 +1,10 @@
--- What calls answer: number and value of each answer, codes, holders, defaults, rows, listings, cancellations. Each script starts from the fresh schedule.
+-- What calls answer: number and value of each answer, codes, holders, defaults, rows, listings, cancellations, choices. Each script starts from the fresh schedule.
 use mathlib.Core.Path.{_≡_}
 use Prim.Native.Nat.{ℕ, _/_, _%_}
 use mathlib.Core.Bool.{Bool, true, false, _&&_}
 use mathlib.Core.List.{List, [], _∷_, _++_, map}
 use lib.ListN.{replicate}
+use Rattle.rules.specs.declared.Choice.{Choice}
 use Rattle.rules.specs.declared.Event.{Event}
 use Rattle.rules.specs.declared.Record.{Record}
 use Rattle.rules.specs.declared.Primacy.{Primacy}
@@ -11,9 +12,9 @@ use Rattle.rules.specs.declared.Primacy.the-variants.{Usable, Reserved}
 use Rattle.rules.specs.declared.Answer.{Answer}
 use Rattle.rules.specs.declared.Answer.the-variants.{Refused, Code, Count, Holder, Default, Nobody}
 use Rattle.rules.specs.Records.{primacyIs, fresh, pad, idFrom, eventOf}
-use Rattle.rules.specs.Calls.{addProgram, deliver, cancel, setClock, ask, list, nothing, code, count, holder, default, nobody, numberOf, valueOf, counted}
+use Rattle.rules.specs.Calls.{addProgram, deliver, cancel, optOut, optIn, setClock, ask, list, nothing, code, count, holder, default, nobody, numberOf, valueOf, counted}
 use Rattle.rules.specs.Script.{valueNumbers, Step, scriptsHold, _answers_, _refused_}
-use Rattle.rules.specs.Marks.{minus, undrawn, same, replies}
+use Rattle.rules.specs.Marks.{minus, undrawn, choice, unheld, stayedIn, same, replies}
 
 -- a row's bytes, of a time below 65,536 and an id below 256
 abbrev row : ℕ → ℕ → ℕ → List ℕ
@@ -23,13 +24,13 @@ row t i k = 0 ∷ 0 ∷ 0 ∷ 0 ∷ 0 ∷ 0 ∷ t / 256 ∷ t % 256 ∷ 0 ∷ 0 
 abbrev reads : ℕ → ℕ → ℕ → List ℕ → ℕ → Step
 reads t room n rows rest = record { call = setClock t (replicate room 77); number = 0; value = count n; bytes = rows ++ replicate rest 77; records = [] }
 
--- a listed event: its effective start, held mask, cancelled mark, and the moment at which it might begin at the earliest
-abbrev listedAs : Event → ℕ → ℕ → Bool → ℕ → Record
-listedAs e begins mask gone earliest = record { entry = record { event = e; begins = begins; held = mask; cancelled = gone }; earliest = earliest }
+-- a listed event: its effective start, held mask, cancelled mark, choice, and the moment at which it might begin at the earliest
+abbrev listedAs : Event → ℕ → ℕ → Bool → Choice → ℕ → Record
+listedAs e begins mask gone c earliest = record { entry = record { event = e; begins = begins; held = mask; cancelled = gone; choice = c }; earliest = earliest }
 
 -- a place of a lent list before it is written to
 abbrev place : Record
-place = listedAs (undrawn 99 9 99 99 99 99) 99 99 true 99
+place = listedAs (undrawn 99 9 99 99 99 99) 99 99 true (choice 1 1 1) 99
 
 -- a listing into `room` places: how many records, and how many places stay as they were
 abbrev listing : ℕ → ℕ → List Record → ℕ → Step
@@ -57,12 +58,12 @@ codes =
     ∷ reads 5000 0 0 [] 0
     ∷ (cancel 2 answers code 0)
     ∷ reads 5050 18 1 (row 5050 1 2) 1
-    ∷ listing 3 2 (listedAs narrow 5050 1 false 5050 ∷ listedAs wide 5000 0 true 5000 ∷ []) 1
+    ∷ listing 3 2 (listedAs narrow 5050 1 false stayedIn 5050 ∷ listedAs wide 5000 0 true unheld 5000 ∷ []) 1
     ∷ (cancel 1 answers code 6)
-    ∷ listing 2 2 (listedAs narrow 5050 0 true 5050 ∷ listedAs wide 5000 0 true 5000 ∷ []) 0
+    ∷ listing 2 2 (listedAs narrow 5050 0 true stayedIn 5050 ∷ listedAs wide 5000 0 true unheld 5000 ∷ []) 0
     ∷ (list (place ∷ []) refused 13)
     ∷ reads 5100 1 0 [] 1
-    ∷ listing 1 1 (listedAs narrow 5050 0 true 5050 ∷ []) 0
+    ∷ listing 1 1 (listedAs narrow 5050 0 true stayedIn 5050 ∷ []) 0
     ∷ (cancel 2 refused 11)
     ∷ []
 
@@ -79,11 +80,11 @@ holders =
     ∷ reads 5049 17 1 (row 5000 2 2) 0
     ∷ (ask 0 answers holder 2)
     ∷ (ask 1 answers holder 2)
-    ∷ listing 4 2 (listedAs narrow 5050 0 false 5050 ∷ listedAs wide 5000 3 false 5000 ∷ []) 2
+    ∷ listing 4 2 (listedAs narrow 5050 0 false unheld 5050 ∷ listedAs wide 5000 3 false stayedIn 5000 ∷ []) 2
     ∷ reads 5050 20 1 (row 5050 1 2) 3
     ∷ (ask 0 answers holder 1)
     ∷ (ask 1 answers holder 2)
-    ∷ listing 2 2 (listedAs narrow 5050 1 false 5050 ∷ listedAs wide 5000 2 false 5000 ∷ []) 0
+    ∷ listing 2 2 (listedAs narrow 5050 1 false stayedIn 5050 ∷ listedAs wide 5000 2 false stayedIn 5000 ∷ []) 0
     ∷ (setClock 5150 (replicate 33 77) refused 13)
     ∷ reads 5150 34 2 (row 5100 2 3 ++ row 5150 1 3) 0
     ∷ (ask 0 answers default 1)
@@ -140,7 +141,7 @@ cancelledOne =
     ∷ (ask 0 answers default 0)
     ∷ reads 5001 17 1 (row 5001 7 2) 0
     ∷ (ask 0 answers holder 7)
-    ∷ listing 3 3 (listedAs (undrawn 7 0 1 0 5001 100) 5001 1 false 5001 ∷ listedAs (undrawn 8 0 1 0 5000 100) 5000 0 false 5000 ∷ listedAs (undrawn 9 0 1 0 5000 100) 5000 0 true 5000 ∷ []) 0
+    ∷ listing 3 3 (listedAs (undrawn 7 0 1 0 5001 100) 5001 1 false stayedIn 5001 ∷ listedAs (undrawn 8 0 1 0 5000 100) 5000 0 false unheld 5000 ∷ listedAs (undrawn 9 0 1 0 5000 100) 5000 0 true stayedIn 5000 ∷ []) 0
     ∷ reads 5200 17 1 (row 5101 7 3) 0
     ∷ []
 
@@ -150,12 +151,12 @@ afterStart =
     (addProgram 0 0 0 answers code 0)
     ∷ reads 5050 0 0 [] 0
     ∷ (deliver (undrawn 3 0 1 0 5000 100) answers code 1)
-    ∷ listing 1 1 (listedAs (undrawn 3 0 1 0 5000 100) 5051 0 false 5000 ∷ []) 0
+    ∷ listing 1 1 (listedAs (undrawn 3 0 1 0 5000 100) 5051 0 false unheld 5000 ∷ []) 0
     ∷ (ask 0 answers nobody)
     ∷ reads 5051 17 1 (row 5051 3 2) 0
     ∷ (ask 0 answers holder 3)
     ∷ (cancel 3 answers code 6)
-    ∷ listing 1 1 (listedAs (undrawn 3 0 1 0 5000 100) 5051 0 true 5000 ∷ []) 0
+    ∷ listing 1 1 (listedAs (undrawn 3 0 1 0 5000 100) 5051 0 true stayedIn 5000 ∷ []) 0
     ∷ reads 5100 0 0 [] 0
     ∷ []
 
@@ -178,17 +179,55 @@ atTheEarliest =
     (addProgram 0 0 0 answers code 0)
     ∷ (deliver later answers code 1)
     ∷ (deliver back answers code 1)
-    ∷ listing 3 2 (listedAs back 4950 0 false 4800 ∷ listedAs later 5150 0 false 5000 ∷ []) 1
+    ∷ listing 3 2 (listedAs back 4950 0 false unheld 4800 ∷ listedAs later 5150 0 false unheld 5000 ∷ []) 1
     ∷ reads 5160 34 2 (row 4950 1 2 ++ row 5150 2 2) 0
     ∷ (deliver undelayed answers code 1)
     ∷ (cancel 1 answers code 6)
-    ∷ listing 3 3 (listedAs back 4950 0 true 4800 ∷ listedAs later 5150 2 false 5000 ∷ listedAs undelayed 5161 0 false 4940 ∷ []) 0
+    ∷ listing 3 3 (listedAs back 4950 0 true stayedIn 4800 ∷ listedAs later 5150 2 false stayedIn 5000 ∷ listedAs undelayed 5161 0 false unheld 4940 ∷ []) 0
     ∷ reads 5250 17 1 (row 5161 3 2) 0
-    ∷ listing 2 2 (listedAs later 5150 2 false 5000 ∷ listedAs undelayed 5161 4 false 4940 ∷ []) 0
+    ∷ listing 2 2 (listedAs later 5150 2 false stayedIn 5000 ∷ listedAs undelayed 5161 4 false stayedIn 4940 ∷ []) 0
+    ∷ []
+
+-- document 02, #102: what a choice changes in a listing, and when; the held masks stay, and so does the other event. Out before the start, from the second
+-- after 5049, and back in; on the other event a choice that was taken back before a second passed leaves no mark
+abbrev choosing : List Step
+choosing =
+    (addProgram 0 0 0 answers code 0)
+    ∷ (addProgram 1 1 1 answers code 0)
+    ∷ (optOut 2 refused 11)
+    ∷ (deliver wide answers code 1)
+    ∷ (optIn 2 answers code 0)
+    ∷ (optOut 2 answers code 4)
+    ∷ (optOut 2 answers code 0)
+    ∷ (deliver wide answers code 0)
+    ∷ listing 1 1 (listedAs wide 5000 0 false (choice 1 0 0) 5000 ∷ []) 0
+    ∷ reads 4999 0 0 [] 0
+    ∷ (optIn 2 answers code 5)
+    ∷ reads 5000 17 1 (row 5000 2 2) 0
+    ∷ (optOut 2 answers code 4)
+    ∷ listing 1 1 (listedAs wide 5000 3 false (choice 1 1 0) 5000 ∷ []) 0
+    ∷ (ask 0 answers default 1)
+    ∷ (ask 1 answers nobody)
+    ∷ reads 5001 0 0 [] 0
+    ∷ listing 1 1 (listedAs wide 5000 3 false (choice 1 1 1) 5000 ∷ []) 0
+    ∷ (deliver narrow answers code 1)
+    ∷ reads 5050 17 1 (row 5050 1 2) 0
+    ∷ (optOut 1 answers code 4)
+    ∷ (optIn 1 answers code 5)
+    ∷ (ask 0 answers holder 1)
+    ∷ (ask 1 answers nobody)
+    ∷ (optIn 2 answers code 5)
+    ∷ (ask 1 answers holder 2)
+    ∷ reads 5051 0 0 [] 0
+    ∷ listing 2 2 (listedAs narrow 5050 1 false stayedIn 5050 ∷ listedAs wide 5000 2 false (choice 0 1 1) 5000 ∷ []) 0
+    ∷ (cancel 1 answers code 6)
+    ∷ (optOut 1 answers code 4)
+    ∷ reads 5150 17 1 (row 5100 2 9) 0
+    ∷ listing 0 0 [] 0
     ∷ []
 
 unfoldable pub callTable : List (List Step)
-callTable = codes ∷ holders ∷ defaultsOf ∷ moment ∷ cancelledOne ∷ afterStart ∷ atTheEarliest ∷ []
+callTable = codes ∷ holders ∷ defaultsOf ∷ moment ∷ cancelledOne ∷ afterStart ∷ atTheEarliest ∷ choosing ∷ []
 
 -- the number and the value of each answer
 abbrev answerNumbers : Answer → List ℕ

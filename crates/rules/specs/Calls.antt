@@ -1,4 +1,4 @@
--- Calls: the six, as one function from a schedule by value and a call to what the call gives and leaves.
+-- Calls: the eight, as one function from a schedule by value and a call to what the call gives and leaves.
 use Prim.Native.Nat.{ℕ, suc, _*_}
 use mathlib.Core.Bool.{Bool, true, false, cond, not, _&&_, _||_}
 use mathlib.Core.List.{List, [], _∷_, _++_, map}
@@ -13,18 +13,19 @@ use Rattle.rules.specs.declared.Schedule.{Schedule}
 use Rattle.rules.specs.declared.Answer.{Answer}
 use Rattle.rules.specs.declared.Answer.the-variants.{Refused, Code, Count, Holder, Default, Nobody}
 use Rattle.rules.specs.Lists.{insert, over}
-use Rattle.rules.specs.Records.{State, idNumber, idOf, has, view, pad}
+use Rattle.rules.specs.Records.{State, idNumber, idOf, has, noChoice, differ, view, pad}
 use Rattle.rules.specs.Period.{earliestStart, periodOf}
 use Rattle.rules.specs.Bytes.{rowSize, bytes}
 use Rattle.rules.specs.Moments.{Moved, passed}
 use Rattle.rules.specs.Sound.{sound}
-use Rattle.rules.specs.Refusals.{Check, _if_, firstOf, find, programChecks, eventChecks, cancelChecks, clockChecks, askChecks, listChecks}
+use Rattle.rules.specs.Refusals.{Check, _if_, firstOf, find, programChecks, eventChecks, heldChecks, clockChecks, askChecks, listChecks}
 
--- Calls, the four that are lent nothing: by what is given
+-- Calls, those that are lent nothing: by what is given
 pub data Bare : Type 0 where
   program : (number primacy defaults : ℕ) → Bare
   event : Event → Bare
   cancellation : (id : ℕ) → Bare
+  decision : (id : ℕ) (out : Bool) → Bare
   question : (control : ℕ) → Bare
 
 -- Calls, call: with all that is given to it, by what is lent to it: nothing, a buffer or a list
@@ -41,6 +42,16 @@ deliver e = bare (event e)
 
 abbrev pub cancel : (id : ℕ) → Call
 cancel id = bare (cancellation id)
+
+-- Document 02, #102: opt out or opt in, one call with the choice
+abbrev pub choose : (id : ℕ) (out : Bool) → Call
+choose id out = bare (decision id out)
+
+abbrev pub optOut : (id : ℕ) → Call
+optOut id = choose id true
+
+abbrev pub optIn : (id : ℕ) → Call
+optIn id = choose id false
 
 abbrev pub ask : (control : ℕ) → Call
 ask control = bare (question control)
@@ -115,7 +126,7 @@ entryId h = idOf (h .event)
 
 -- an event as it is first held
 abbrev pub entry : ℕ → Event → Entry
-entry clock e = record { event = e; begins = periodOf e clock .start; held = 0; cancelled = false }
+entry clock e = record { event = e; begins = periodOf e clock .start; held = 0; cancelled = false; choice = noChoice }
 
 abbrev pub withEntries : State → List Entry → State
 withEntries s hs = record { clock = s .clock; programs = s .programs; entries = hs }
@@ -135,11 +146,29 @@ receive s e (some h) = s
 abbrev pub mark : ℕ → Entry → Entry
 mark i h =
     let it = eqb (entryId h) i in
-    record { event = h .event; begins = h .begins; held = cond it 0 (h .held); cancelled = it || h .cancelled }
+    record { event = h .event; begins = h .begins; held = cond it 0 (h .held); cancelled = it || h .cancelled; choice = h .choice }
 
 abbrev pub cancelCode : Option Entry → Value
 cancelCode none = nothing
 cancelCode (some h) = cond (h .cancelled) (code 0) (code 6)
+
+-- Document 02, #102, opt out and opt in
+
+-- an entry with the choice made, if it is the one under the id
+abbrev pub decide : ℕ → Bool → Entry → Entry
+decide i out h =
+    record {
+      event = h .event;
+      begins = h .begins;
+      held = h .held;
+      cancelled = h .cancelled;
+      choice = record { out = cond (eqb (entryId h) i) out (h .choice .out); «was_in» = h .choice .«was_in»; «was_out» = h .choice .«was_out» };
+    }
+
+-- 4 for out and 5 for in, or 0 if it repeats the present choice
+abbrev pub choiceCode : Bool → Option Entry → Value
+choiceCode out none = nothing
+choiceCode out (some h) = cond (differ (h .choice .out) out) (cond out (code 4) (code 5)) (code 0)
 
 -- Calls, set the clock: the state, the count and the bytes of the moments passed
 abbrev pub clocked : Moved → List ℕ → Done
@@ -168,10 +197,14 @@ abbrev pub defaultFor : Option Ranked → Value
 defaultFor none = nobody
 defaultFor (some q) = default (q .number)
 
--- the holder of a control, else what else there is
+-- Document 02, #102, a question: whether the event holds the control and its user is in; else it is as though it did not hold it
+abbrev pub governs : ℕ → Entry → Bool
+governs c h = has (h .held) c && not (h .choice .out)
+
+-- the holder of a control, if its user is in, else what else there is
 unfoldable pub holderIn : ℕ → List Entry → Value → Value
 holderIn c [] else = else
-holderIn c (h ∷ hs) else = cond (has (h .held) c) (holder (entryId h)) (holderIn c hs else)
+holderIn c (h ∷ hs) else = cond (governs c h) (holder (entryId h)) (holderIn c hs else)
 
 unfoldable pub answerFor : State → ℕ → Value
 answerFor s c = holderIn c (s .entries) (defaultFor (bestDefault c 0 (s .programs)))
@@ -188,12 +221,14 @@ abbrev pub stateAfter : State → Bare → State
 stateAfter s (program n p d) = withProgram s n (programOf p d)
 stateAfter s (event e) = receive s e (find (idOf e) (s .entries))
 stateAfter s (cancellation i) = withEntries s (map (mark i) (s .entries))
+stateAfter s (decision i out) = withEntries s (map (decide i out) (s .entries))
 stateAfter s (question c) = s
 
 abbrev pub answerTo : State → Bare → Value
 answerTo s (program n p d) = code 0
 answerTo s (event e) = received (find (idOf e) (s .entries))
 answerTo s (cancellation i) = cancelCode (find i (s .entries))
+answerTo s (decision i out) = choiceCode out (find i (s .entries))
 answerTo s (question c) = answerFor s c
 
 unfoldable pub does : State → Call → Done
@@ -205,7 +240,8 @@ does s (list r) = record { state = s; value = count (length (s .entries)); bytes
 abbrev pub bareChecks : State → Bare → List Check
 bareChecks s (program n p d) = programChecks s n p
 bareChecks s (event e) = eventChecks s e (find (idOf e) (s .entries))
-bareChecks s (cancellation i) = cancelChecks (find i (s .entries))
+bareChecks s (cancellation i) = heldChecks (find i (s .entries))
+bareChecks s (decision i out) = heldChecks (find i (s .entries))
 bareChecks s (question c) = askChecks c
 
 unfoldable pub checks : State → Call → List Check

@@ -3,8 +3,8 @@
 use mathlib.Core.Path.{_≡_}
 use mathlib.Core.Logic.{_↔_, _⊎_}
 use Prim.Native.Nat.{ℕ, zero, suc, _+_, _*_, _<_, _≤_, min}
-use mathlib.Core.Bool.{Bool, true, false, cond, _||_}
-use mathlib.Core.List.{List, [], _∷_, _++_}
+use mathlib.Core.Bool.{Bool, true, false, cond, not, _||_}
+use mathlib.Core.List.{List, [], _∷_, _++_, map}
 use mathlib.Core.Option.{none, some}
 use lib.Dec.{eqb}
 use lib.ListN.{length}
@@ -15,19 +15,20 @@ use Rattle.rules.specs.declared.Program.{Program}
 use Rattle.rules.specs.declared.Record.{Record}
 use Rattle.rules.specs.declared.Schedule.{Schedule}
 use Rattle.rules.specs.Lists.{In, All, Pairwise}
-use Rattle.rules.specs.Records.{State, idOf, has, lastClock, mostEvents, mostRows, programAt, fresh, view, pad}
+use Rattle.rules.specs.Records.{State, idOf, has, differ, lastClock, mostEvents, mostRows, programAt, fresh, view, pad}
 use Rattle.rules.specs.Period.{lift, drawnStart, effectiveEnd, earliestStart, periodOf}
-use Rattle.rules.specs.Holding.{Rank, rankOf, better, heldAt, Holding, endOf}
-use Rattle.rules.specs.Rows.{Row, codeAt, Sooner}
+use Rattle.rules.specs.Holding.{Rank, rankOf, better, heldAt, Holding, endOf, remarked}
+use Rattle.rules.specs.Rows.{Row, codeAt, ending, Sooner}
 use Rattle.rules.specs.Moments.{second, passed}
 use Rattle.rules.specs.Sound.{drawn, malformed, sound}
 use Rattle.rules.specs.Refusals.{late}
 use Rattle.rules.specs.Bytes.{rowSize}
-use Rattle.rules.specs.Calls.{Call, deliver, cancel, setClock, list, code, count, numberOf, valueOf, entry, Ranked, bestDefault, recordOf, lentBytes, lentList, call}
+use Rattle.rules.specs.Calls.{Call, deliver, cancel, choose, setClock, list, entryId, code, count, numberOf, valueOf, entry, Ranked, bestDefault, recordOf, lentBytes, lentList, call}
 use Rattle.rules.specs.Image.{imageSize, image, loaded, imaged}
 use Rattle.rules.specs.Face.{Operation, asCall, idTooLong, shown, negative, lentAfter, face, faceFresh}
 use Rattle.rules.specs.Printed.{room}
-use Rattle.rules.specs.Schedules.{Timed, goneBy, holding, seen, rowsTo}
+use Rattle.rules.specs.History.{Chosen}
+use Rattle.rules.specs.Schedules.{Timed, goneBy, outBy, holding, seen, rowsTo}
 
 -- Effective period, draw: the event with another start draw
 abbrev pub withDraw : Event → ℕ → Event
@@ -136,19 +137,24 @@ codeGiven ps ts t x = codeAt (suc t) (seen ps ts t x) (holding ps ts (suc t) x)
 abbrev pub rowGiven : List Program → List Timed → ℕ → Timed → Row
 rowGiven ps ts t x = record { time = suc t; id = idOf (x .event); code = codeGiven ps ts t x }
 
+-- the event ends at moment suc t, was not cancelled before, and held some control until then
+abbrev pub EndsHolding : List Program → List Timed → ℕ → Timed → Type 0
+EndsHolding ps ts t x = (ends x ≡ suc t) × Standing (suc t) x × HoldsAny ps ts t x
+
 -- Response rows, of a history's events
 pub record RowClauses (ps : List Program) (ts : List Timed) : Type 0 where
   -- an event not cancelled before the moment gives 2 at its start if it holds any control then
   pub at-start : (t : ℕ) (x : Timed) → codeGiven ps ts t x ≡ 2 ↔ ((x .begins ≡ suc t) × Standing (suc t) x × HoldsAny ps ts (suc t) x)
-  -- 3 at its end if it held any until then
-  pub at-end : (t : ℕ) (x : Timed) → codeGiven ps ts t x ≡ 3 ↔ ((ends x ≡ suc t) × Standing (suc t) x × HoldsAny ps ts t x)
+  -- 3 at its end if it held any until then; document 02, #102: 3, 8, 9 or 10
+  pub at-end : (t : ℕ) (x : Timed) → ending (codeGiven ps ts t x) ≡ true ↔ EndsHolding ps ts t x
   -- 7 at its start if it holds none, or when a better one takes its last control
   pub superseded : (t : ℕ) (x : Timed)
       → codeGiven ps ts t x ≡ 7 ↔ ((suc t < ends x) × Standing (suc t) x × (HoldsAny ps ts (suc t) x → ⊥) × ((x .begins ≡ suc t) ⊎ HoldsAny ps ts t x))
   -- a better one takes it: each control that it held a second before, a better event holds then
   pub taken : (t c : ℕ) (x : Timed) → codeGiven ps ts t x ≡ 7 → Holds ps ts t c x → (o : Timed) × In o ts × Better ps o x × Holds ps ts (suc t) c o
   -- it gives no other code
-  pub only : (t : ℕ) (x : Timed) → (codeGiven ps ts t x ≡ 0) ⊎ ((codeGiven ps ts t x ≡ 2) ⊎ ((codeGiven ps ts t x ≡ 3) ⊎ (codeGiven ps ts t x ≡ 7)))
+  pub only : (t : ℕ) (x : Timed)
+      → (codeGiven ps ts t x ≡ 0) ⊎ ((codeGiven ps ts t x ≡ 2) ⊎ ((ending (codeGiven ps ts t x) ≡ true) ⊎ (codeGiven ps ts t x ≡ 7)))
   -- the rows of the moments from 1 to u are what the events give in them, and nothing else
   pub rows : (u : ℕ) (r : Row) → In r (rowsTo ps ts u) ↔ ((t : ℕ) × (x : Timed) × (t < u) × In x ts × (codeGiven ps ts t x ≡ 0 → ⊥) × (r ≡ rowGiven ps ts t x))
 
@@ -171,13 +177,40 @@ pub record MomentClauses : Type 0 where
   pub silent : (t : ℕ) (h : Entry) (now : Holding) → h .cancelled ≡ true → codeAt t h now ≡ 0
   -- an event gives at most two rows in its life
   pub two-rows : (ps : List Program) (ts : List Timed) (t : ℕ) (x : Timed) → given ps ts t x ≤ 2
-  -- the rows of a clock call go by time, then code in the order 3, 7, 2, then id
+  -- the rows of a clock call go by time, then code in the order 3, 7, 2, with 8, 9 and 10 where 3 stands, then id
   pub in-order : (s : Schedule) → sound s ≡ true → (reading : ℕ) → Pairwise Sooner (passed (view s) reading .rows)
   -- a clock call gives at most two for each held event, so at most `mostRows`
   pub few-rows : (s : Schedule) → sound s ≡ true → (reading : ℕ) → length (passed (view s) reading .rows) ≤ mostRows
-  -- where nothing begins or ends, a second changes the clock alone
+  -- where nothing begins or ends, a second changes the clock and the marks of the choices alone
   pub quiet : (s : Schedule) → sound s ≡ true → busy (suc (s .clock)) (view s .entries) ≡ false
-      → second (view s) ≡ record { state = record { clock = suc (s .clock); programs = s .programs; entries = view s .entries }; rows = [] }
+      → second (view s) ≡ record { state = record { clock = suc (s .clock); programs = s .programs; entries = map remarked (view s .entries) }; rows = [] }
+
+-- Document 02, #102: in each second up to t in which the event held something, the user was out, or in each was in. A choice made at clock u counts from
+-- second suc u on.
+abbrev pub Throughout : List Program → List Timed → ℕ → Bool → Timed → Type 0
+Throughout ps ts t out x = (u : ℕ) → suc u ≤ t → HoldsAny ps ts (suc u) x → outBy u (x .choices) ≡ out
+
+-- in some of them in and in some out, and at moment suc t out, or in
+abbrev pub InPart : List Program → List Timed → ℕ → Bool → Timed → Type 0
+InPart ps ts t out x = (Throughout ps ts t false x → ⊥) × (Throughout ps ts t true x → ⊥) × (outBy t (x .choices) ≡ out)
+
+-- the event with other choices
+abbrev pub rechosen : (Timed → List Chosen) → Timed → Timed
+rechosen f x = record { event = x .event; begins = x .begins; cancelled = x .cancelled; choices = f x }
+
+-- Document 02, #102, of a history's events
+pub record ChoiceClauses (ps : List Program) (ts : List Timed) : Type 0 where
+  -- at its end the event gives 3 exactly if the user was in for every second that it held something, 10 exactly if out for each
+  pub always-in : (t : ℕ) (x : Timed) → codeGiven ps ts t x ≡ 3 ↔ (EndsHolding ps ts t x × Throughout ps ts t false x)
+  pub always-out : (t : ℕ) (x : Timed) → codeGiven ps ts t x ≡ 10 ↔ (EndsHolding ps ts t x × Throughout ps ts t true x)
+  -- otherwise 8 exactly if out at the effective end, and 9 exactly if in
+  pub out-at-end : (t : ℕ) (x : Timed) → codeGiven ps ts t x ≡ 8 ↔ (EndsHolding ps ts t x × InPart ps ts t true x)
+  pub in-at-end : (t : ℕ) (x : Timed) → codeGiven ps ts t x ≡ 9 ↔ (EndsHolding ps ts t x × InPart ps ts t false x)
+  -- choices change no held mask, whatever they are and whichever events they are on; starts and ends have none in them
+  pub same-masks : (f : Timed → List Chosen) (t : ℕ) (x : Timed) → holding ps (map (rechosen f) ts) t (rechosen f x) .held ≡ holding ps ts t x .held
+  -- nor do they change what another event gives: one on which the choices are the same gives the same codes
+  pub same-codes : (f : Timed → List Chosen) (t : ℕ) (x : Timed) → f x ≡ x .choices
+      → codeGiven ps (map (rechosen f) ts) t (rechosen f x) ≡ codeGiven ps ts t x
 
 -- Numbers given: none before 10 applies to the delivery
 pub record Fit (s : State) (e : Event) : Type 0 where
@@ -221,6 +254,19 @@ pub record CallClauses : Type 0 where
   -- the same reading is accepted, whatever the buffer, and writes nothing
   pub same-reading : (s : Schedule) (b : List ℕ) → sound s ≡ true
       → call s (setClock (s .clock) b) ≡ record { number = 0; value = count 0; state = s; bytes = b; records = [] }
+
+-- Document 02, #102, the calls
+pub record ChoosingClauses : Type 0 where
+  -- a choice on a held event gives 4 for out and 5 for in, or 0 if it repeats the present choice
+  pub code-given : (s : Schedule) (h : Entry) (out : Bool) → sound s ≡ true → In h (view s .entries)
+      → (call s (choose (entryId h) out) .number ≡ 0)
+      × (call s (choose (entryId h) out) .value ≡ cond (differ (h .choice .out) out) (cond out (code 4) (code 5)) (code 0))
+  -- a choice that repeats the present one changes nothing
+  pub repeated : (s : Schedule) (h : Entry) → sound s ≡ true → In h (view s .entries)
+      → call s (choose (entryId h) (h .choice .out)) ≡ record { number = 0; value = code 0; state = s; bytes = []; records = [] }
+  -- the other choice and back again, before the next second, leaves the schedule as it was, so that nothing later shows it
+  pub back : (s : Schedule) (h : Entry) → sound s ≡ true → In h (view s .entries)
+      → call (call s (choose (entryId h) (not (h .choice .out))) .state) (choose (entryId h) (h .choice .out)) .state ≡ s
 
 -- the program under the number was added, and its defaults carry the control
 abbrev pub Offers : List Program → ℕ → ℕ → Type 0
@@ -285,7 +331,9 @@ pub record Clauses : Type 0 where
   pub holding : (ps : List Program) (ts : List Timed) → HoldingClauses ps ts
   pub rows : (ps : List Program) (ts : List Timed) → RowClauses ps ts
   pub moments : MomentClauses
+  pub choices : (ps : List Program) (ts : List Timed) → ChoiceClauses ps ts
   pub calls : CallClauses
+  pub choosing : ChoosingClauses
   pub defaults : DefaultClause
   pub answers : AnswerClause
   pub face : FaceClauses

@@ -3,7 +3,7 @@ use Prim.Native.Nat.{ℕ, zero, suc, _+_}
 use mathlib.Core.List.{List, [], _∷_, _++_}
 use lib.ListN.{replicate}
 use Rattle.rules.specs.declared.Event.{Event}
-use Rattle.rules.specs.Calls.{Call, addProgram, deliver, cancel, setClock, ask, list, recordOf}
+use Rattle.rules.specs.Calls.{Call, addProgram, deliver, cancel, optOut, optIn, setClock, ask, list, recordOf}
 use Rattle.rules.specs.Records.{noEntry, eventOf}
 use Rattle.rules.specs.Marks.{minus, undrawn, Edge}
 
@@ -99,6 +99,13 @@ edges =
     ∷ after [] (cancel 1) 11
     ∷ after (deliver (plain 5000 600) ∷ clock 5599 ∷ []) (cancel 1) 0
     ∷ after (deliver (plain 5000 600) ∷ clock 5600 ∷ []) (cancel 1) 11
+    -- #102, 11: the same of choices
+    ∷ after [] (optOut 1) 11
+    ∷ after [] (optIn 1) 11
+    ∷ after (deliver (plain 5000 600) ∷ clock 5599 ∷ []) (optOut 1) 0
+    ∷ after (deliver (plain 5000 600) ∷ clock 5599 ∷ []) (optIn 1) 0
+    ∷ after (deliver (plain 5000 600) ∷ clock 5600 ∷ []) (optOut 1) 11
+    ∷ after (deliver (plain 5000 600) ∷ clock 5600 ∷ []) (optIn 1) 11
     -- 12: before the clock, the clock, the last reading and the next
     ∷ after (clock 100 ∷ []) (clock 99) 12
     ∷ after (clock 100 ∷ []) (clock 100) 0

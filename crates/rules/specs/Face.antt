@@ -9,7 +9,7 @@ use Rattle.rules.specs.Lists.{over}
 use Rattle.rules.specs.Records.{idSize, noEntry, fresh, pad}
 use Rattle.rules.specs.Bytes.{big, flat, recordSize, recordBytes}
 use Rattle.rules.specs.Refusals.{_if_, firstOf}
-use Rattle.rules.specs.Calls.{Bare, program, event, cancellation, question, Call, bare, setClock, list, Governor, byEvent, byProgram, byNone, Value, nothing, code, count, governor, Outcome, recordOf, call, counted}
+use Rattle.rules.specs.Calls.{Bare, program, event, cancellation, decision, question, Call, bare, setClock, list, Governor, byEvent, byProgram, byNone, Value, nothing, code, count, governor, Outcome, recordOf, call, counted}
 use Rattle.rules.specs.Image.{imageSize, image, loaded, imaged}
 
 -- an operation of a C host; its lent bytes stand beside it
@@ -26,6 +26,10 @@ delivers e = makes (event e)
 
 abbrev pub cancels : (id : ℕ) → Operation
 cancels id = makes (cancellation id)
+
+-- document 02, #102: hadulmir_opt_out and hadulmir_opt_in
+abbrev pub chooses : (id : ℕ) (out : Bool) → Operation
+chooses id out = makes (decision id out)
 
 abbrev pub asks : (control : ℕ) → Operation
 asks control = makes (question control)

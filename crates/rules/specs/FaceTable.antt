@@ -1,16 +1,16 @@
 -- The C face: what each operation returns and leaves in the lent bytes, on both sides of each length.
 use mathlib.Core.Path.{_≡_}
 use Prim.Native.Nat.{ℕ, _-_}
-use mathlib.Core.Bool.{Bool, true, _&&_}
+use mathlib.Core.Bool.{Bool, true, false, _&&_}
 use mathlib.Core.List.{List, [], _∷_, _++_}
 use lib.Dec.{eqb}
 use lib.ListN.{replicate}
 use Rattle.rules.specs.declared.Event.{Event}
 use Rattle.rules.specs.Lists.{overAt, All}
 use Rattle.rules.specs.Records.{fresh, pad, eventOf}
-use Rattle.rules.specs.Calls.{Call, addProgram, deliver, cancel, setClock, run}
+use Rattle.rules.specs.Calls.{Call, addProgram, deliver, cancel, optOut, setClock, run}
 use Rattle.rules.specs.Image.{loaded, imaged}
-use Rattle.rules.specs.Face.{Operation, addsProgram, delivers, cancels, setsClock, asks, lists, FaceOutcome, face, faceFresh}
+use Rattle.rules.specs.Face.{Operation, addsProgram, delivers, cancels, chooses, setsClock, asks, lists, FaceOutcome, face, faceFresh}
 use Rattle.rules.specs.Marks.{same}
 
 -- an operation after calls by value: what is lent to it, what it returns, what the lent bytes hold then
@@ -34,17 +34,17 @@ one = eventOf 0x0102030405060708 7 0x03 0x0A0B0C0D 5000 100 0xFFFE 2 0 0
 abbrev two : Event
 two = eventOf 0x1112131415161718 0 0x04 0 6000 100 5 0 5 0
 
--- their records at 5000
+-- their records at 5000: the user in for that second, and out of the event to come
 abbrev oneBytes : List ℕ
 oneBytes =
     1 ∷ 2 ∷ 3 ∷ 4 ∷ 5 ∷ 6 ∷ 7 ∷ 8 ∷ 7 ∷ 0 ∷ 0 ∷ 0 ∷ 3 ∷ 0x0A ∷ 0x0B ∷ 0x0C ∷ 0x0D ∷ 0 ∷ 0 ∷ 0x13 ∷ 0x88 ∷ 0 ∷ 0 ∷ 0 ∷ 100
-    ∷ 0xFF ∷ 0xFE ∷ 0 ∷ 2 ∷ 0 ∷ 0 ∷ 0 ∷ 0 ∷ 0 ∷ 0 ∷ 0 ∷ 0 ∷ 0 ∷ 0 ∷ 0x13 ∷ 0x88 ∷ 0 ∷ 0 ∷ 0 ∷ 3 ∷ 0
+    ∷ 0xFF ∷ 0xFE ∷ 0 ∷ 2 ∷ 0 ∷ 0 ∷ 0 ∷ 0 ∷ 0 ∷ 0 ∷ 0 ∷ 0 ∷ 0 ∷ 0 ∷ 0x13 ∷ 0x88 ∷ 0 ∷ 0 ∷ 0 ∷ 3 ∷ 0 ∷ 2
     ∷ 0 ∷ 0 ∷ 0 ∷ 0 ∷ 0 ∷ 0 ∷ 0x13 ∷ 0x86 ∷ []
 
 abbrev twoBytes : List ℕ
 twoBytes =
     0x11 ∷ 0x12 ∷ 0x13 ∷ 0x14 ∷ 0x15 ∷ 0x16 ∷ 0x17 ∷ 0x18 ∷ 0 ∷ 0 ∷ 0 ∷ 0 ∷ 4 ∷ 0 ∷ 0 ∷ 0 ∷ 0 ∷ 0 ∷ 0 ∷ 0x17 ∷ 0x70 ∷ 0 ∷ 0 ∷ 0 ∷ 100
-    ∷ 0 ∷ 5 ∷ 0 ∷ 0 ∷ 0 ∷ 5 ∷ 0 ∷ 0 ∷ 0 ∷ 0 ∷ 0 ∷ 0 ∷ 0 ∷ 0 ∷ 0x17 ∷ 0x75 ∷ 0 ∷ 0 ∷ 0 ∷ 0 ∷ 0
+    ∷ 0 ∷ 5 ∷ 0 ∷ 0 ∷ 0 ∷ 5 ∷ 0 ∷ 0 ∷ 0 ∷ 0 ∷ 0 ∷ 0 ∷ 0 ∷ 0 ∷ 0x17 ∷ 0x75 ∷ 0 ∷ 0 ∷ 0 ∷ 0 ∷ 0 ∷ 1
     ∷ 0 ∷ 0 ∷ 0 ∷ 0 ∷ 0 ∷ 0 ∷ 0x17 ∷ 0x70 ∷ []
 
 -- a row: time 5000, the id of `one`, code 2
@@ -65,8 +65,11 @@ told = programs ++ (deliver one ∷ [])
 abbrev begun : List Call
 begun = told ++ (setClock 5000 (replicate 17 0) ∷ [])
 
+abbrev out : List Call
+out = begun ++ (optOut 0x0102030405060708 ∷ [])
+
 abbrev both : List Call
-both = begun ++ (deliver two ∷ [])
+both = begun ++ (deliver two ∷ optOut 0x1112131415161718 ∷ [])
 
 -- after, operation, lent, returned, what is lent then
 abbrev case : List Call → Operation → List ℕ → ℕ → List ℕ → FaceCase
@@ -98,6 +101,16 @@ faceTable =
     ∷ leaves told (cancels 0x0102030405060708) (room 3) 6
     ∷ leaves (told ++ (cancel 0x0102030405060708 ∷ [])) (cancels 0x0102030405060708) [] 0
     ∷ leaves told (cancels 1) (room 3) (minus 11)
+    -- #102: a choice, one that repeats it, an id that is not held; then a question about what the event holds
+    ∷ leaves told (chooses 0x0102030405060708 true) [] 4
+    ∷ leaves told (chooses 0x0102030405060708 true) (room 3) 4
+    ∷ leaves told (chooses 0x0102030405060708 false) [] 0
+    ∷ leaves out (chooses 0x0102030405060708 false) (room 3) 5
+    ∷ leaves out (chooses 0x0102030405060708 true) [] 0
+    ∷ leaves told (chooses 1 true) (room 3) (minus 11)
+    ∷ leaves told (chooses 1 false) [] (minus 11)
+    ∷ leaves out (asks 0) (room 9) 0
+    ∷ leaves out (asks 8) [] 2
     -- a reading: without a row, with a row in 16, 17 and 18 bytes, before the clock
     ∷ leaves told (setsClock 4999) [] 0
     ∷ leaves told (setsClock 5000) (room 16) (minus 13)
@@ -114,19 +127,19 @@ faceTable =
     ∷ leaves begun (asks 2) [] 0
     ∷ leaves begun (asks 31) (room 9) 0
     ∷ leaves begun (asks 32) [] (minus 14)
-    -- a listing: of nothing, of one record in 46, 53, 54 and 55 bytes, of two in 107, 108 and 109
+    -- a listing: of nothing, of one record in 47, 54, 55 and 56 bytes, of two in 109, 110 and 111
     ∷ leaves programs lists [] 0
     ∷ leaves programs lists (room 3) 0
-    ∷ leaves begun lists (room 46) (minus 13)
-    ∷ leaves begun lists (room 53) (minus 13)
-    ∷ case begun lists (room 54) 1 oneBytes
-    ∷ case begun lists (room 55) 1 (oneBytes ++ room 1)
-    ∷ leaves both lists (room 107) (minus 13)
-    ∷ case both lists (room 108) 2 (oneBytes ++ twoBytes)
-    ∷ case both lists (room 109) 2 (oneBytes ++ (twoBytes ++ room 1))
+    ∷ leaves begun lists (room 47) (minus 13)
+    ∷ leaves begun lists (room 54) (minus 13)
+    ∷ case begun lists (room 55) 1 oneBytes
+    ∷ case begun lists (room 56) 1 (oneBytes ++ room 1)
+    ∷ leaves both lists (room 109) (minus 13)
+    ∷ case both lists (room 110) 2 (oneBytes ++ twoBytes)
+    ∷ case both lists (room 111) 2 (oneBytes ++ (twoBytes ++ room 1))
     ∷ []
 
--- Images that are none: the wrong length, a count of 49. Number 2 stands before every other, and nothing changes. And the fresh image, into 2,264, 2,265 and 2,266 bytes.
+-- Images that are none: the wrong length, a count of 49. Number 2 stands before every other, and nothing changes. And the fresh image, into 2,312, 2,313 and 2,314 bytes.
 
 abbrev is : FaceOutcome → ℕ → List ℕ → List ℕ → Bool
 is o returned image lent = eqb (o .returned) returned && same (o .image) image && same (o .lent) lent
@@ -136,23 +149,25 @@ abbrev refuses : List ℕ → Operation → Bool
 refuses l op = is (face l op (room 9)) (minus 2) l (room 9)
 
 abbrev short : List ℕ
-short = replicate 2264 0
+short = replicate 2312 0
 
 abbrev overfull : List ℕ
-overfull = overAt 8 (49 ∷ []) (replicate 2265 0)
+overfull = overAt 8 (49 ∷ []) (replicate 2313 0)
 
 unfoldable pub noImage : Bool
 noImage =
     refuses short (addsProgram 8 1 0)
     && refuses short (delivers one)
     && refuses short (cancels 1)
+    && refuses short (chooses 1 true)
+    && refuses short (chooses 1 false)
     && refuses short (setsClock 9000000001)
     && refuses short (asks 32)
     && refuses short lists
     && refuses overfull (asks 0)
-    && is (faceFresh (room 2264)) (minus 2) (room 2264) []
-    && is (faceFresh (room 2265)) 0 (replicate 2265 0) []
-    && is (faceFresh (room 2266)) (minus 2) (room 2266) []
+    && is (faceFresh (room 2312)) (minus 2) (room 2312) []
+    && is (faceFresh (room 2313)) 0 (replicate 2313 0) []
+    && is (faceFresh (room 2314)) (minus 2) (room 2314) []
 
 pub record FaceTables : Type 0 where
   -- each operation, on every image of its schedule

@@ -10,7 +10,7 @@ use Rattle.rules.specs.declared.Line.{Line}
 use Rattle.rules.specs.declared.Line.the-variants.{Good, Bad}
 use Rattle.rules.specs.Records.{idSize, idNumber}
 use Rattle.rules.specs.Bytes.{read, idAt, eventSize, eventAt}
-use Rattle.rules.specs.Calls.{Call, addProgram, deliver, cancel, setClock, ask}
+use Rattle.rules.specs.Calls.{Call, addProgram, deliver, cancel, optOut, optIn, setClock, ask}
 
 -- what a hexadecimal digit stands for, 0 to 9 and upper-case A to F; 16 for any other byte
 unfoldable pub digit : ℕ → ℕ
@@ -36,8 +36,9 @@ isFrame kind size b = eqb (length b) size && eqb (getD b 0 0) kind
 abbrev pub eventFrame : ℕ
 eventFrame = 1 + eventSize
 
-abbrev pub cancelFrame : ℕ
-cancelFrame = 1 + idSize
+-- those of a cancellation, and document 02, #102: of an opt-out and an opt-in
+abbrev pub idFrame : ℕ
+idFrame = 1 + idSize
 
 abbrev pub clockFrame : ℕ
 clockFrame = 9
@@ -48,15 +49,17 @@ programFrame = 7
 abbrev pub askFrame : ℕ
 askFrame = 2
 
--- Frames and image, the five kinds with their lengths and fields
+-- Frames and image, the kinds with their lengths and fields: document 01's five, and document 02, #102: 06 and 07
 unfoldable pub frameOf : List ℕ → Line
 frameOf b =
     cond (isFrame 1 eventFrame b) (Good (frame.Event (eventAt 1 b)))
-    (cond (isFrame 2 cancelFrame b) (Good (frame.Cancel (idAt 1 b)))
+    (cond (isFrame 2 idFrame b) (Good (frame.Cancel (idAt 1 b)))
     (cond (isFrame 3 clockFrame b) (Good (frame.Clock (read 8 1 b)))
     (cond (isFrame 4 programFrame b) (Good (frame.Program (read 1 1 b) (read 1 2 b) (read 4 3 b)))
     (cond (isFrame 5 askFrame b) (Good (frame.Ask (read 1 1 b)))
-    Bad))))
+    (cond (isFrame 6 idFrame b) (Good (frame.OptOut (idAt 1 b)))
+    (cond (isFrame 7 idFrame b) (Good (frame.OptIn (idAt 1 b)))
+    Bad))))))
 
 -- Numbers given, 1: a line that is no frame is `Bad`
 unfoldable pub lineOf : List ℕ → Line
@@ -69,3 +72,5 @@ frameCall (frame.Cancel i) room = cancel (idNumber i)
 frameCall (frame.Clock t) room = setClock t room
 frameCall (frame.Program n p d) room = addProgram n p d
 frameCall (frame.Ask c) room = ask c
+frameCall (frame.OptOut i) room = optOut (idNumber i)
+frameCall (frame.OptIn i) room = optIn (idNumber i)

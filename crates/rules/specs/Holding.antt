@@ -1,6 +1,6 @@
 -- Who holds a control, from one moment to the next.
 use Prim.Native.Nat.{ℕ}
-use mathlib.Core.Bool.{Bool, cond, _&&_, _||_}
+use mathlib.Core.Bool.{Bool, false, cond, not, _&&_, _||_}
 use mathlib.Core.List.{List, [], _∷_}
 use lib.Dec.{leb, ltb, eqb}
 use Rattle.rules.specs.declared.Program.{Program}
@@ -45,16 +45,40 @@ taken ps t (o ∷ os) h = join (cond (better (rankOf ps (o .event)) (rankOf ps (
 unfoldable pub heldAt : List Program → ℕ → List Entry → Entry → ℕ
 heldAt ps t hs h = cut (claim t h) (taken ps t hs h)
 
--- what an event carries from one moment to the next
+-- what an event carries from one moment to the next: the controls that it holds; document 02, #102: whether the user was in for a second in which it held
+-- something, and whether the user was out for one
 pub record Holding : Type 0 where
   pub held : ℕ
+  pub «was_in» : Bool
+  pub «was_out» : Bool
 
 -- what it carries before it starts
 abbrev pub noHolding : Holding
-noHolding = record { held = 0 }
+noHolding = record { held = 0; «was_in» = false; «was_out» = false }
+
+-- Document 02, #102, a choice made at clock k counts for the seconds from k + 1 on: a second in which the event holds something sets one of the two marks, by
+-- the choice that stood after the calls of the clock before (`h .choice .out`). The start second is one of them.
+abbrev pub carry : Entry → ℕ → Holding
+carry h held =
+    record {
+      held = held;
+      «was_in» = h .choice .«was_in» || (not (eqb held 0) && not (h .choice .out));
+      «was_out» = h .choice .«was_out» || (not (eqb held 0) && h .choice .out);
+    }
 
 unfoldable pub holdingAt : List Program → ℕ → List Entry → Entry → Holding
-holdingAt ps t hs h = record { held = heldAt ps t hs h }
+holdingAt ps t hs h = carry h (heldAt ps t hs h)
 
 abbrev pub withHolding : Entry → Holding → Entry
-withHolding h k = record { event = h .event; begins = h .begins; held = k .held; cancelled = h .cancelled }
+withHolding h k =
+    record {
+      event = h .event;
+      begins = h .begins;
+      held = k .held;
+      cancelled = h .cancelled;
+      choice = record { out = h .choice .out; «was_in» = k .«was_in»; «was_out» = k .«was_out» };
+    }
+
+-- an entry after a second in which it holds what it held before
+abbrev pub remarked : Entry → Entry
+remarked h = withHolding h (carry h (h .held))

@@ -7,7 +7,7 @@ use lib.ListN.{length}
 use Rattle.rules.specs.declared.Program.{Program}
 use Rattle.rules.specs.declared.Schedule.{Schedule}
 use Rattle.rules.specs.Records.{mostEvents, mostPrograms}
-use Rattle.rules.specs.Bytes.{big, read, flat, many, flag, flagAt, entrySize, markAt, entryBytes, entryAt}
+use Rattle.rules.specs.Bytes.{big, read, flat, many, flag, flagAt, entrySize, markAt, choiceAt, entryBytes, entryAt}
 use Rattle.rules.specs.Sound.{sound}
 
 -- bytes of a program entry
@@ -46,14 +46,17 @@ loaded l =
       entries = many entryAt entrySize mostEvents entriesAt l;
     }
 
--- whether n marks, k bytes from one to the next, are 0 or 1 each
-unfoldable pub marked : ℕ → ℕ → ℕ → List ℕ → Bool
-marked k zero at l = true
-marked k (suc n) at l = leb (read 1 at l) 1 && marked k n (at + k) l
+-- whether n bytes, k bytes from one to the next, are at most `most` each
+unfoldable pub marked : ℕ → ℕ → ℕ → ℕ → List ℕ → Bool
+marked most k zero at l = true
+marked most k (suc n) at l = leb (read 1 at l) most && marked most k n (at + k) l
 
--- the length of an image, and its marks
+-- the length of an image, and its marks, 0 or 1; document 02, #102: no choice byte has a bit above 2
 unfoldable pub formed : List ℕ → Bool
-formed l = eqb (length l) imageSize && (marked programSize mostPrograms programsAt l && marked entrySize mostEvents (entriesAt + markAt) l)
+formed l =
+    eqb (length l) imageSize
+    && (marked 1 programSize mostPrograms programsAt l
+    && (marked 1 entrySize mostEvents (entriesAt + markAt) l && marked 7 entrySize mostEvents (entriesAt + choiceAt) l))
 
 -- Numbers given, 2: an image that keeps its length and every rule
 unfoldable pub imaged : List ℕ → Bool

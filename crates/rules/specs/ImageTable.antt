@@ -5,6 +5,7 @@ use mathlib.Core.Bool.{Bool, true, false, cond, not, _&&_, _||_}
 use mathlib.Core.List.{List, [], _∷_, _++_}
 use lib.Dec.{eqb}
 use lib.ListN.{length, getD, replicate}
+use Rattle.rules.specs.declared.Choice.{Choice}
 use Rattle.rules.specs.declared.Event.{Event}
 use Rattle.rules.specs.declared.Entry.{Entry}
 use Rattle.rules.specs.declared.Program.{Program}
@@ -12,13 +13,13 @@ use Rattle.rules.specs.declared.Schedule.{Schedule}
 use Rattle.rules.specs.Lists.{overAt}
 use Rattle.rules.specs.Records.{mostEvents, mostPrograms, lastProgram, mostControls, lastControl, mostRows, idSize, idLimit, noProgram, noEntry, eventOf}
 use Rattle.rules.specs.Rows.{Row}
-use Rattle.rules.specs.Bytes.{rowSize, rowsSize, rowBytes, eventSize, entrySize, markAt, recordSize}
+use Rattle.rules.specs.Bytes.{rowSize, rowsSize, rowBytes, eventSize, entrySize, markAt, choiceAt, recordSize}
 use Rattle.rules.specs.Sound.{sound}
-use Rattle.rules.specs.Calls.{Call, addProgram, deliver, cancel, setClock, ask, list, call}
+use Rattle.rules.specs.Calls.{Call, addProgram, deliver, cancel, optOut, optIn, setClock, ask, list, call}
 use Rattle.rules.specs.Image.{programSize, programsAt, entriesAt, imageSize, image, loaded, formed, imaged}
-use Rattle.rules.specs.Frames.{eventFrame, cancelFrame, clockFrame, programFrame, askFrame}
+use Rattle.rules.specs.Frames.{eventFrame, idFrame, clockFrame, programFrame, askFrame}
 use Rattle.rules.specs.Script.{programNumbers, entryNumbers}
-use Rattle.rules.specs.Marks.{minus, same}
+use Rattle.rules.specs.Marks.{minus, choice, unheld, stayedIn, same}
 
 -- whether two tests come out the same
 abbrev agree : Bool → Bool → Bool
@@ -35,8 +36,8 @@ unfoldable pub rulesHold : List RuleCase → Bool
 rulesHold [] = true
 rulesHold (c ∷ cs) = agree (sound (c .schedule)) (c .kept) && rulesHold cs
 
-abbrev entryAs : Event → ℕ → ℕ → Bool → Entry
-entryAs e begins held gone = record { event = e; begins = begins; held = held; cancelled = gone }
+abbrev entryAs : Event → ℕ → ℕ → Bool → Choice → Entry
+entryAs e begins held gone c = record { event = e; begins = begins; held = held; cancelled = gone; choice = c }
 
 abbrev program : Bool → ℕ → ℕ → Program
 program added primacy defaults = record { added = added; primacy = primacy; defaults = defaults }
@@ -70,9 +71,13 @@ ofTimes start duration rs sd = eventOf 1 0 1 0 start duration rs 0 sd 0
 abbrev plain : ℕ → ℕ → Event
 plain i controls = eventOf i 0 controls 0 4900 200 0 0 0 0
 
--- one that has begun and holds this mask
+-- one that has begun and holds this mask, the user never out
 abbrev begun : ℕ → ℕ → ℕ → Entry
-begun i controls held = entryAs (plain i controls) 4900 held false
+begun i controls held = entryAs (plain i controls) 4900 held false (cond (eqb held 0) unheld stayedIn)
+
+-- one on control 0 that holds this mask, with a choice
+abbrev choosing : ℕ → Choice → Entry
+choosing held c = entryAs (plain 1 1) 4900 held false c
 
 -- n entries with the ids from 1 on
 abbrev several : ℕ → List Entry
@@ -114,19 +119,22 @@ ruleTable =
     ∷ broken (placed (program false 0 1))
     -- an unused event place is zero, in each of its fields
     ∷ good (behind noEntry)
-    ∷ broken (behind (entryAs (eventOf 1 0 0 0 0 0 0 0 0 0) 0 0 false))
-    ∷ broken (behind (entryAs (eventOf 0 1 0 0 0 0 0 0 0 0) 0 0 false))
-    ∷ broken (behind (entryAs (eventOf 0 0 1 0 0 0 0 0 0 0) 0 0 false))
-    ∷ broken (behind (entryAs (eventOf 0 0 0 1 0 0 0 0 0 0) 0 0 false))
-    ∷ broken (behind (entryAs (eventOf 0 0 0 0 1 0 0 0 0 0) 0 0 false))
-    ∷ broken (behind (entryAs (eventOf 0 0 0 0 0 1 0 0 0 0) 0 0 false))
-    ∷ broken (behind (entryAs (eventOf 0 0 0 0 0 0 1 0 0 0) 0 0 false))
-    ∷ broken (behind (entryAs (eventOf 0 0 0 0 0 0 0 1 0 0) 0 0 false))
-    ∷ broken (behind (entryAs (eventOf 0 0 0 0 0 0 0 0 1 0) 0 0 false))
-    ∷ broken (behind (entryAs (eventOf 0 0 0 0 0 0 0 0 0 1) 0 0 false))
-    ∷ broken (behind (entryAs (eventOf 0 0 0 0 0 0 0 0 0 0) 1 0 false))
-    ∷ broken (behind (entryAs (eventOf 0 0 0 0 0 0 0 0 0 0) 0 1 false))
-    ∷ broken (behind (entryAs (eventOf 0 0 0 0 0 0 0 0 0 0) 0 0 true))
+    ∷ broken (behind (entryAs (eventOf 1 0 0 0 0 0 0 0 0 0) 0 0 false unheld))
+    ∷ broken (behind (entryAs (eventOf 0 1 0 0 0 0 0 0 0 0) 0 0 false unheld))
+    ∷ broken (behind (entryAs (eventOf 0 0 1 0 0 0 0 0 0 0) 0 0 false unheld))
+    ∷ broken (behind (entryAs (eventOf 0 0 0 1 0 0 0 0 0 0) 0 0 false unheld))
+    ∷ broken (behind (entryAs (eventOf 0 0 0 0 1 0 0 0 0 0) 0 0 false unheld))
+    ∷ broken (behind (entryAs (eventOf 0 0 0 0 0 1 0 0 0 0) 0 0 false unheld))
+    ∷ broken (behind (entryAs (eventOf 0 0 0 0 0 0 1 0 0 0) 0 0 false unheld))
+    ∷ broken (behind (entryAs (eventOf 0 0 0 0 0 0 0 1 0 0) 0 0 false unheld))
+    ∷ broken (behind (entryAs (eventOf 0 0 0 0 0 0 0 0 1 0) 0 0 false unheld))
+    ∷ broken (behind (entryAs (eventOf 0 0 0 0 0 0 0 0 0 1) 0 0 false unheld))
+    ∷ broken (behind (entryAs (eventOf 0 0 0 0 0 0 0 0 0 0) 1 0 false unheld))
+    ∷ broken (behind (entryAs (eventOf 0 0 0 0 0 0 0 0 0 0) 0 1 false unheld))
+    ∷ broken (behind (entryAs (eventOf 0 0 0 0 0 0 0 0 0 0) 0 0 true unheld))
+    ∷ broken (behind (entryAs (eventOf 0 0 0 0 0 0 0 0 0 0) 0 0 false (choice 1 0 0)))
+    ∷ broken (behind (entryAs (eventOf 0 0 0 0 0 0 0 0 0 0) 0 0 false (choice 0 1 0)))
+    ∷ broken (behind (entryAs (eventOf 0 0 0 0 0 0 0 0 0 0) 0 0 false (choice 0 0 1)))
     ∷ broken (behind (begun 1 1 0))
     ∷ broken (schedule 5000 1 noProgram (several 2))
     ∷ broken (schedule 5000 2 noProgram (several 1))
@@ -136,20 +144,20 @@ ruleTable =
     ∷ broken (holds (begun 2 1 0 ∷ begun 1 1 0 ∷ []))
     ∷ broken (holds (begun 2 1 0 ∷ begun 3 1 0 ∷ begun 2 1 0 ∷ []))
     -- events pass 3 and 6: the last program, one that was not added, one that is none
-    ∷ good (schedule 5000 1 (program true 1 0) (entryAs (eventOf 1 7 1 0 4900 200 0 0 0 0) 4900 1 false ∷ []))
-    ∷ broken (schedule 5000 1 noProgram (entryAs (eventOf 1 7 1 0 4900 200 0 0 0 0) 4900 1 false ∷ []))
-    ∷ broken (schedule 5000 1 (program true 1 0) (entryAs (eventOf 1 8 1 0 4900 200 0 0 0 0) 4900 1 false ∷ []))
+    ∷ good (schedule 5000 1 (program true 1 0) (entryAs (eventOf 1 7 1 0 4900 200 0 0 0 0) 4900 1 false stayedIn ∷ []))
+    ∷ broken (schedule 5000 1 noProgram (entryAs (eventOf 1 7 1 0 4900 200 0 0 0 0) 4900 1 false stayedIn ∷ []))
+    ∷ broken (schedule 5000 1 (program true 1 0) (entryAs (eventOf 1 8 1 0 4900 200 0 0 0 0) 4900 1 false stayedIn ∷ []))
     -- events pass 7
-    ∷ good (schedule 3600 1 noProgram (entryAs (ofTimes 3600 1 0 0) 3600 1 false ∷ []))
-    ∷ broken (schedule 3599 1 noProgram (entryAs (ofTimes 3599 2 0 0) 3599 1 false ∷ []))
-    ∷ broken (holds (entryAs (plain 1 0) 4900 0 false ∷ []))
-    ∷ broken (holds (entryAs (eventOf 1 0 1 0 4900 200 0 3600 0 3601) 4900 1 false ∷ []))
+    ∷ good (schedule 3600 1 noProgram (entryAs (ofTimes 3600 1 0 0) 3600 1 false stayedIn ∷ []))
+    ∷ broken (schedule 3599 1 noProgram (entryAs (ofTimes 3599 2 0 0) 3599 1 false stayedIn ∷ []))
+    ∷ broken (holds (entryAs (plain 1 0) 4900 0 false unheld ∷ []))
+    ∷ broken (holds (entryAs (eventOf 1 0 1 0 4900 200 0 3600 0 3601) 4900 1 false stayedIn ∷ []))
     -- the effective start: not before the drawn start, before the effective end; also one that no run leaves
-    ∷ good (schedule 0 1 noProgram (entryAs (ofTimes 5000 200 100 50) 5050 0 false ∷ []))
-    ∷ broken (schedule 0 1 noProgram (entryAs (ofTimes 5000 200 100 50) 5049 0 false ∷ []))
-    ∷ good (schedule 0 1 noProgram (entryAs (ofTimes 5000 200 100 50) 5249 0 false ∷ []))
-    ∷ broken (schedule 0 1 noProgram (entryAs (ofTimes 5000 200 100 50) 5250 0 false ∷ []))
-    ∷ good (schedule 0 1 noProgram (entryAs (ofTimes 3600 1 (minus 3600) (minus 3600)) 0 1 false ∷ []))
+    ∷ good (schedule 0 1 noProgram (entryAs (ofTimes 5000 200 100 50) 5050 0 false unheld ∷ []))
+    ∷ broken (schedule 0 1 noProgram (entryAs (ofTimes 5000 200 100 50) 5049 0 false unheld ∷ []))
+    ∷ good (schedule 0 1 noProgram (entryAs (ofTimes 5000 200 100 50) 5249 0 false unheld ∷ []))
+    ∷ broken (schedule 0 1 noProgram (entryAs (ofTimes 5000 200 100 50) 5250 0 false unheld ∷ []))
+    ∷ good (schedule 0 1 noProgram (entryAs (ofTimes 3600 1 (minus 3600) (minus 3600)) 0 1 false stayedIn ∷ []))
     -- the effective end is after the clock
     ∷ good (schedule 5099 1 noProgram (begun 1 1 1 ∷ []))
     ∷ broken (schedule 5100 1 noProgram (begun 1 1 1 ∷ []))
@@ -163,8 +171,23 @@ ruleTable =
     ∷ broken (schedule 4899 1 noProgram (begun 1 1 1 ∷ []))
     ∷ good (schedule 4899 1 noProgram (begun 1 1 0 ∷ []))
     -- and if the event is cancelled
-    ∷ good (holds (entryAs (plain 1 1) 4900 0 true ∷ []))
-    ∷ broken (holds (entryAs (plain 1 1) 4900 1 true ∷ []))
+    ∷ good (holds (entryAs (plain 1 1) 4900 0 true unheld ∷ []))
+    ∷ broken (holds (entryAs (plain 1 1) 4900 1 true stayedIn ∷ []))
+    -- #102: neither was in nor was out before the start; out is free
+    ∷ good (schedule 4899 1 noProgram (choosing 0 (choice 1 0 0) ∷ []))
+    ∷ broken (schedule 4899 1 noProgram (choosing 0 (choice 0 1 0) ∷ []))
+    ∷ broken (schedule 4899 1 noProgram (choosing 0 (choice 1 0 1) ∷ []))
+    ∷ good (schedule 4900 1 noProgram (choosing 0 (choice 0 1 0) ∷ []))
+    ∷ good (schedule 4900 1 noProgram (choosing 0 (choice 0 0 1) ∷ []))
+    -- #102: one of them while the held mask is not zero; a started event whose mask is zero has them either way
+    ∷ broken (holds (choosing 1 (choice 0 0 0) ∷ []))
+    ∷ broken (holds (choosing 1 (choice 1 0 0) ∷ []))
+    ∷ good (holds (choosing 1 (choice 1 1 0) ∷ []))
+    ∷ good (holds (choosing 1 (choice 0 0 1) ∷ []))
+    ∷ good (holds (choosing 1 (choice 1 1 1) ∷ []))
+    ∷ good (holds (choosing 0 (choice 1 0 0) ∷ []))
+    ∷ good (holds (choosing 0 (choice 0 1 1) ∷ []))
+    ∷ good (holds (entryAs (plain 1 1) 4900 0 true (choice 1 1 1) ∷ []))
     -- held masks share no bit; the better of two may hold nothing
     ∷ good (holds (begun 1 7 5 ∷ begun 2 7 2 ∷ []))
     ∷ broken (holds (begun 1 7 5 ∷ begun 2 7 3 ∷ []))
@@ -218,6 +241,10 @@ numberTable =
     ∷ deliver (plain 1 1) on beyond gets 2
     ∷ cancel 1 on lastSecond gets 11
     ∷ cancel 1 on beyond gets 2
+    ∷ optOut 1 on lastSecond gets 11
+    ∷ optOut 1 on beyond gets 2
+    ∷ optIn 1 on lastSecond gets 11
+    ∷ optIn 1 on beyond gets 2
     ∷ setClock 9000000000 [] on lastSecond gets 0
     ∷ setClock 9000000001 [] on lastSecond gets 12
     ∷ setClock 9000000001 [] on beyond gets 2
@@ -235,10 +262,10 @@ abbrev layout : Schedule
 layout =
     raw 0x0102030405060708 0x09
     (program true 0x0A 0x0B0C0D0E ∷ program false 0x0F 0x10111213 ∷ (replicate 5 noProgram ++ (program true 0x14 0x15161718 ∷ [])))
-    (entryAs (eventOf 0x2122232425262728 0x29 0x2A2B2C2D 0x2E2F3031 0x32333435 0x36373839 0x3A3B 0x3C3D 0x3E3F 0x4041) 0x4243444546474849 0x4A4B4C4D true
-    ∷ entryAs (eventOf 0x5152535455565758 0x59 0x5A5B5C5D 0x5E5F6061 0x62636465 0x66676869 0x6A6B 0x6C6D 0x6E6F 0x7071) 0x7273747576777879 0x7A7B7C7D false
+    (entryAs (eventOf 0x2122232425262728 0x29 0x2A2B2C2D 0x2E2F3031 0x32333435 0x36373839 0x3A3B 0x3C3D 0x3E3F 0x4041) 0x4243444546474849 0x4A4B4C4D true (choice 1 0 0)
+    ∷ entryAs (eventOf 0x5152535455565758 0x59 0x5A5B5C5D 0x5E5F6061 0x62636465 0x66676869 0x6A6B 0x6C6D 0x6E6F 0x7071) 0x7273747576777879 0x7A7B7C7D false (choice 0 1 0)
     ∷ (replicate 45 noEntry
-    ++ (entryAs (eventOf 0x8182838485868788 0x89 0x8A8B8C8D 0x8E8F9091 0x92939495 0x96979899 0x9A9B 0x9C9D 0x9E9F 0xA0A1) 0xA2A3A4A5A6A7A8A9 0xAAABACAD true ∷ [])))
+    ++ (entryAs (eventOf 0x8182838485868788 0x89 0x8A8B8C8D 0x8E8F9091 0x92939495 0x96979899 0x9A9B 0x9C9D 0x9E9F 0xA0A1) 0xA2A3A4A5A6A7A8A9 0xAAABACAD true (choice 1 0 1) ∷ [])))
 
 -- n numbers one after the other, from x on
 abbrev from : ℕ → ℕ → List ℕ
@@ -250,7 +277,7 @@ abbrev layoutBytes : List ℕ
 layoutBytes =
     from 0x01 9
     ++ (1 ∷ from 0x0A 5 ++ (0 ∷ from 0x0F 5 ++ (replicate 30 0 ++ (1 ∷ from 0x14 5
-    ++ (from 0x21 45 ++ (1 ∷ from 0x51 45 ++ (0 ∷ replicate 2070 0 ++ (from 0x81 45 ++ (1 ∷ [])))))))))
+    ++ (from 0x21 45 ++ (1 ∷ 1 ∷ from 0x51 45 ++ (0 ∷ 2 ∷ replicate 2115 0 ++ (from 0x81 45 ++ (1 ∷ 5 ∷ [])))))))))
 
 -- what a schedule says where `layout` says something: clock, count, lengths, programs, the first two entries and the last
 abbrev numbers : Schedule → List ℕ
@@ -271,14 +298,14 @@ bytesHold =
 
 -- SIZES
 
--- the sizes beside the numbers that document 01 gives for them
+-- the sizes beside the numbers that documents 01 and 02 give for them
 unfoldable pub sizesHold : Bool
 sizesHold =
     same (mostEvents ∷ mostPrograms ∷ lastProgram ∷ mostControls ∷ lastControl ∷ mostRows ∷ []) (48 ∷ 8 ∷ 7 ∷ 32 ∷ 31 ∷ 96 ∷ [])
     && same (idSize ∷ idLimit ∷ rowSize ∷ rowsSize ∷ []) (8 ∷ 0x10000000000000000 ∷ 17 ∷ 1632 ∷ [])
-    && same (eventSize ∷ entrySize ∷ markAt ∷ recordSize ∷ []) (33 ∷ 46 ∷ 45 ∷ 54 ∷ [])
-    && same (programSize ∷ programsAt ∷ entriesAt ∷ imageSize ∷ []) (6 ∷ 9 ∷ 57 ∷ 2265 ∷ [])
-    && same (eventFrame ∷ cancelFrame ∷ clockFrame ∷ programFrame ∷ askFrame ∷ []) (34 ∷ 9 ∷ 9 ∷ 7 ∷ 2 ∷ [])
+    && same (eventSize ∷ entrySize ∷ markAt ∷ choiceAt ∷ recordSize ∷ []) (33 ∷ 47 ∷ 45 ∷ 46 ∷ 55 ∷ [])
+    && same (programSize ∷ programsAt ∷ entriesAt ∷ imageSize ∷ []) (6 ∷ 9 ∷ 57 ∷ 2313 ∷ [])
+    && same (eventFrame ∷ idFrame ∷ clockFrame ∷ programFrame ∷ askFrame ∷ []) (34 ∷ 9 ∷ 9 ∷ 7 ∷ 2 ∷ [])
 
 -- LENGTHS AND MARKS
 
@@ -293,7 +320,7 @@ formsHold (c ∷ cs) = agree (formed (c .bytes)) (c .formed) && formsHold cs
 
 -- an image of zeros with one other byte
 abbrev zerosBut : ℕ → ℕ → List ℕ
-zerosBut at b = overAt at (b ∷ []) (replicate 2265 0)
+zerosBut at b = overAt at (b ∷ []) (replicate 2313 0)
 
 abbrev forms : Bool → List ℕ → FormCase
 forms b l = record { bytes = l; formed = b }
@@ -302,9 +329,9 @@ unfoldable pub formTable : List FormCase
 formTable =
     -- lengths
     forms false []
-    ∷ forms false (replicate 2264 0)
-    ∷ forms true (replicate 2265 0)
-    ∷ forms false (replicate 2266 0)
+    ∷ forms false (replicate 2312 0)
+    ∷ forms true (replicate 2313 0)
+    ∷ forms false (replicate 2314 0)
     -- the mark of the first and the last program; of the first, the second and the last event
     ∷ forms true (zerosBut 9 1)
     ∷ forms false (zerosBut 9 2)
@@ -312,9 +339,17 @@ formTable =
     ∷ forms false (zerosBut 51 2)
     ∷ forms true (zerosBut 102 1)
     ∷ forms false (zerosBut 102 2)
-    ∷ forms false (zerosBut 148 2)
-    ∷ forms true (zerosBut 2264 1)
-    ∷ forms false (zerosBut 2264 2)
+    ∷ forms false (zerosBut 149 2)
+    ∷ forms true (zerosBut 2311 1)
+    ∷ forms false (zerosBut 2311 2)
+    -- #102: the choice of the first, the second and the last event: bits 0 to 2, and no other
+    ∷ forms true (zerosBut 103 7)
+    ∷ forms false (zerosBut 103 8)
+    ∷ forms false (zerosBut 103 16)
+    ∷ forms false (zerosBut 103 255)
+    ∷ forms false (zerosBut 150 8)
+    ∷ forms true (zerosBut 2312 7)
+    ∷ forms false (zerosBut 2312 8)
     -- the bytes next to them are no marks
     ∷ forms true (zerosBut 8 2)
     ∷ forms true (zerosBut 10 2)
@@ -323,14 +358,14 @@ formTable =
     ∷ forms true (zerosBut 52 2)
     ∷ forms true (zerosBut 57 2)
     ∷ forms true (zerosBut 101 2)
-    ∷ forms true (zerosBut 103 2)
-    ∷ forms true (zerosBut 2263 2)
+    ∷ forms true (zerosBut 104 8)
+    ∷ forms true (zerosBut 2310 2)
     ∷ []
 
 -- an image keeps both: its length and marks, and the rules. The first has the wrong length, the others a count of 49 and a clock beyond the last reading.
 unfoldable pub refusedImages : Bool
 refusedImages =
-    not (imaged (replicate 2264 0))
+    not (imaged (replicate 2312 0))
     && not (imaged (zerosBut 8 49))
     && not (imaged (zerosBut 0 1))
 

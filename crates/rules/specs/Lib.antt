@@ -1,4 +1,4 @@
--- Document 01 as definitions, in its order. docs/READING.md maps each clause to its definition and its law.
+-- Document 01 as definitions, in its order, with document 02's requests where they belong. docs/READING.md maps each clause to its definition and its law.
 pub mod Lists  -- lists: tests, places, one over another, membership
 pub mod Ascii  -- quoted texts as bytes
 pub mod Records  -- sizes, ids, events, masks, the schedule as lists
@@ -9,7 +9,7 @@ pub mod Moments  -- one second, and many
 pub mod Bytes  -- numbers, events, entries and rows as bytes
 pub mod Sound  -- the rules of an image
 pub mod Refusals  -- the numbers, in checking order
-pub mod Calls  -- the six calls, what each does, and THE CALL
+pub mod Calls  -- the calls, what each does, and THE CALL
 pub mod History  -- what the accepted calls of a list bring
 pub mod Schedules  -- the schedule of that
 pub mod Arrival  -- demand 3
@@ -30,4 +30,5 @@ pub mod MomentTable  -- seconds after an accepted state
 pub mod Edges  -- numbers 3 to 14 on their edges
 pub mod Example  -- the worked example
 pub mod Clauses  -- the clauses as laws
+pub mod ChoiceTable  -- worked cases of users who opt out
 pub mod Sample  -- two lists that meet the premise of demand 3, and pairs that miss it

@@ -26,6 +26,8 @@ frameNumbers (frame.Cancel i) = 2 ∷ idNumber i ∷ []
 frameNumbers (frame.Clock t) = 3 ∷ t ∷ []
 frameNumbers (frame.Program n p d) = 4 ∷ n ∷ p ∷ d ∷ []
 frameNumbers (frame.Ask c) = 5 ∷ c ∷ []
+frameNumbers (frame.OptOut i) = 6 ∷ idNumber i ∷ []
+frameNumbers (frame.OptIn i) = 7 ∷ idNumber i ∷ []
 
 -- the same of a line; nothing if it is no frame
 abbrev pub lineNumbers : Line → List ℕ
@@ -63,6 +65,8 @@ lineTable =
     ∷ "03E1E2E3E4E5E6E7E8" reads (3 ∷ 0xE1E2E3E4E5E6E7E8 ∷ [])
     ∷ "04D1D2D3D4D5D6" reads (4 ∷ 0xD1 ∷ 0xD2 ∷ 0xD3D4D5D6 ∷ [])
     ∷ "05C1" reads asks 0xC1
+    ∷ "06B1B2B3B4B5B6B7B8" reads (6 ∷ 0xB1B2B3B4B5B6B7B8 ∷ [])
+    ∷ "07A1A2A3A4A5A6A7A8" reads (7 ∷ 0xA1A2A3A4A5A6A7A8 ∷ [])
     -- every kind one digit short, one digit long, one byte short, one byte long
     ∷ bad "010102030405060708090A0B0C0D0E0F101112131415161718191A1B1C1D1E1F202"
     ∷ bad "010102030405060708090A0B0C0D0E0F101112131415161718191A1B1C1D1E1F20210"
@@ -84,17 +88,29 @@ lineTable =
     ∷ bad "05C10"
     ∷ bad "05"
     ∷ bad "05C1C2"
+    ∷ bad "06B1B2B3B4B5B6B7B"
+    ∷ bad "06B1B2B3B4B5B6B7B80"
+    ∷ bad "06B1B2B3B4B5B6B7"
+    ∷ bad "06B1B2B3B4B5B6B7B8B9"
+    ∷ bad "07A1A2A3A4A5A6A7A"
+    ∷ bad "07A1A2A3A4A5A6A7A80"
+    ∷ bad "07A1A2A3A4A5A6A7"
+    ∷ bad "07A1A2A3A4A5A6A7A8A9"
     -- kinds that are none, each at a length that is another's; a known kind at another's length; an empty line, one digit
     ∷ bad "000102030405060708090A0B0C0D0E0F101112131415161718191A1B1C1D1E1F2021"
     ∷ bad "060102030405060708090A0B0C0D0E0F101112131415161718191A1B1C1D1E1F2021"
+    ∷ bad "080102030405060708090A0B0C0D0E0F101112131415161718191A1B1C1D1E1F2021"
     ∷ bad "00F1F2F3F4F5F6F7F8"
     ∷ bad "01F1F2F3F4F5F6F7F8"
     ∷ bad "04F1F2F3F4F5F6F7F8"
-    ∷ bad "06F1F2F3F4F5F6F7F8"
+    ∷ bad "05F1F2F3F4F5F6F7F8"
+    ∷ bad "08F1F2F3F4F5F6F7F8"
     ∷ bad "03D1D2D3D4D5D6"
     ∷ bad "05D1D2D3D4D5D6"
     ∷ bad "04C1"
     ∷ bad "06C1"
+    ∷ bad "07C1"
+    ∷ bad "06D1D2D3D4D5D6"
     ∷ bad ""
     ∷ bad "0"
     -- the ends of the digits' ranges and the bytes next to them, as the first digit of a pair and as the second

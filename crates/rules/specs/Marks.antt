@@ -5,6 +5,7 @@ use mathlib.Core.List.{List, [], _∷_, _++_, map}
 use lib.Dec.{eqb}
 use lib.ListN.{take, drop, replicate}
 use Rattle.rules.specs.declared.Event.{Event}
+use Rattle.rules.specs.declared.Choice.{Choice}
 use Rattle.rules.specs.declared.Period.{Period}
 use Rattle.rules.specs.declared.Record.{Record}
 use Rattle.rules.specs.declared.Schedule.{Schedule}
@@ -28,6 +29,17 @@ undrawn i program controls created start duration = eventOf i program controls c
 -- id, program, controls, creation time, drawn start (the start 3,600 drawn back), duration
 abbrev pub drawnBack : ℕ → ℕ → ℕ → ℕ → ℕ → ℕ → Event
 drawnBack i program controls created start duration = eventOf i program controls created 3600 duration (minus 3600) 0 (minus (3600 - start)) 0
+
+-- a choice by 0 and 1: whether the user is out now, was in for a held second, was out for one
+abbrev pub choice : ℕ → ℕ → ℕ → Choice
+choice out wasIn wasOut = record { out = eqb out 1; «was_in» = eqb wasIn 1; «was_out» = eqb wasOut 1 }
+
+-- of an event that has held nothing yet, and of one that has; the user never out
+abbrev pub unheld : Choice
+unheld = choice 0 0 0
+
+abbrev pub stayedIn : Choice
+stayedIn = choice 0 1 0
 
 -- what a host sees of a call
 pub record Reply : Type 0 where

@@ -85,6 +85,8 @@ frameText clock (frame.Cancel i) o = codeText clock (idNumber i) (o .value)
 frameText clock (frame.Clock t) o = rowsText (counted (o .value)) 0 (o .bytes)
 frameText clock (frame.Program n p d) o = []
 frameText clock (frame.Ask c) o = askText c (o .value)
+frameText clock (frame.OptOut i) o = codeText clock (idNumber i) (o .value)
+frameText clock (frame.OptIn i) o = codeText clock (idNumber i) (o .value)
 
 -- a buffer that the rows of every clock call fit
 abbrev pub room : List ℕ

@@ -1,6 +1,6 @@
 -- Records: limits, ids, primacies, masks, and the schedule as lists. A comment names the section of document 01 and the term that it renders.
 use Prim.Native.Nat.{ℕ, _-_, _*_, _/_, _%_, _^_}
-use mathlib.Core.Bool.{Bool, false, cond, _&&_, _||_}
+use mathlib.Core.Bool.{Bool, true, false, cond, not, _&&_, _||_}
 use mathlib.Core.List.{List, [], _++_}
 use lib.Bits.{bitAnd, bitOr, bitXor}
 use lib.Dec.{leb, eqb}
@@ -11,6 +11,7 @@ use Rattle.rules.specs.declared.Primacy.the-variants.{Usable, Reserved}
 use Rattle.rules.specs.declared.Program.{Program}
 use Rattle.rules.specs.declared.Event.{Event}
 use Rattle.rules.specs.declared.Entry.{Entry}
+use Rattle.rules.specs.declared.Choice.{Choice}
 use Rattle.rules.specs.declared.Schedule.{Schedule}
 
 -- Records, limit on events: how many are held at the most
@@ -100,9 +101,18 @@ noProgram = record { added = false; primacy = 0; defaults = 0 }
 abbrev pub noEvent : Event
 noEvent = eventOf 0 0 0 0 0 0 0 0 0 0
 
+-- Document 02, #102, a new event is in
+abbrev pub noChoice : Choice
+noChoice = record { out = false; «was_in» = false; «was_out» = false }
+
+-- whether two choices are not the same
+abbrev pub differ : Bool → Bool → Bool
+differ true b = not b
+differ false b = b
+
 -- an event place that is not in use
 abbrev pub noEntry : Entry
-noEntry = record { event = noEvent; begins = 0; held = 0; cancelled = false }
+noEntry = record { event = noEvent; begins = 0; held = 0; cancelled = false; choice = noChoice }
 
 -- a schedule with its held events as a list, by ascending id
 pub record State : Type 0 where

@@ -63,9 +63,9 @@ eventChecks s e old =
     ∷ 10 if (isNone old && leb mostEvents (length (s .entries)))
     ∷ []
 
--- Numbers given, of a cancellation: 11
-unfoldable pub cancelChecks : Option Entry → List Check
-cancelChecks old = 11 if isNone old ∷ []
+-- Numbers given, of a cancellation, and document 02, #102, of an opt-out and an opt-in: 11
+unfoldable pub heldChecks : Option Entry → List Check
+heldChecks old = 11 if isNone old ∷ []
 
 -- Numbers given, of setting the clock: 12, 13; `rows` is how many are to be written into `room` bytes
 unfoldable pub clockChecks : ℕ → ℕ → ℕ → ℕ → List Check

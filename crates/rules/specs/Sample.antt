@@ -2,29 +2,32 @@
 -- Nor could it ask for less: for each part of the premise two lists that miss it alone, and give other rows.
 use mathlib.Core.Path.{_≡_}
 use Prim.Native.Nat.{ℕ}
+use mathlib.Core.Bool.{Bool, true, false, cond, _&&_}
 use mathlib.Core.List.{List, [], _∷_, _++_}
+use mathlib.Core.Option.{none, some}
 use lib.ListN.{length, replicate}
 use Rattle.rules.specs.declared.Event.{Event}
 use Rattle.rules.specs.Rows.{Row}
 use Rattle.rules.specs.Bytes.{bytes}
-use Rattle.rules.specs.Calls.{Call, addProgram, deliver, cancel, setClock, ask, list}
-use Rattle.rules.specs.History.{historyOf}
-use Rattle.rules.specs.Marks.{drawnBack}
-use Rattle.rules.specs.Arrival.{SameArrivals, SameResults, joinedRows}
+use Rattle.rules.specs.Calls.{Call, addProgram, deliver, cancel, optOut, optIn, setClock, ask, list}
+use Rattle.rules.specs.History.{History, historyOf}
+use Rattle.rules.specs.LineTable.{eventNumbers}
+use Rattle.rules.specs.Marks.{drawnBack, same}
+use Rattle.rules.specs.Arrival.{eventsOf, Cancellation, cancellationsOf, Choices, choicesOf, SameArrivals, SameResults, joinedRows}
 
 -- 10 to 30 on control 0, cancelled at 12
 abbrev pub one : Event
 one = drawnBack 1 0 1 100 10 20
 
--- 15 to 20 on controls 0 and 1: the better
+-- 15 to 20 on controls 0 and 1: the better; out from 18 on
 abbrev pub two : Event
 two = drawnBack 2 0 3 200 15 5
 
--- the id of `one` again, after its end: 40 to 45
+-- the id of `one` again, after its end: 40 to 45; out throughout
 abbrev pub three : Event
 three = drawnBack 1 0 1 100 40 5
 
--- 16 to 30 on controls 1 and 2: it begins under `two`, and holds what is left
+-- 16 to 30 on controls 1 and 2: it begins under `two`, and holds what is left; out for 18 alone
 abbrev pub four : Event
 four = drawnBack 4 0 6 150 16 14
 
@@ -38,15 +41,17 @@ room = replicate 136 7
 unfoldable pub plainly : List Call
 plainly =
     addProgram 0 1 1 ∷ addProgram 1 2 0 ∷ deliver one ∷ deliver two ∷ deliver four ∷ deliver five ∷ setClock 12 room ∷ cancel 1
-    ∷ setClock 11 room ∷ setClock 33 room ∷ deliver three ∷ setClock 42 room ∷ []
+    ∷ setClock 11 room ∷ setClock 17 room ∷ optOut 2 ∷ optOut 4 ∷ setClock 18 room ∷ optIn 4 ∷ setClock 33 room ∷ deliver three
+    ∷ setClock 39 room ∷ optOut 1 ∷ setClock 42 room ∷ []
 
--- programs and events in another order, each event at the last clock that is in time; an id that is not held; repeats of a program, of events and of a
--- cancellation; short buffers and lists
+-- programs and events in another order, each event at the last clock that is in time; an id that is not held; repeats of a program, of events, of a
+-- cancellation and of choices; choices at one clock in the other order; short buffers and lists
 unfoldable pub otherwise : List Call
 otherwise =
     cancel 9 ∷ addProgram 1 2 0 ∷ setClock 5 [] ∷ addProgram 0 1 1 ∷ setClock 9 room ∷ ask 0 ∷ deliver one ∷ addProgram 0 1 1 ∷ setClock 11 []
     ∷ setClock 11 room ∷ deliver five ∷ deliver one ∷ setClock 12 room ∷ cancel 1 ∷ setClock 14 room ∷ cancel 1 ∷ deliver two ∷ setClock 15 room
-    ∷ deliver four ∷ deliver one ∷ setClock 39 room ∷ deliver three ∷ list [] ∷ setClock 42 room ∷ []
+    ∷ deliver four ∷ deliver one ∷ optOut 9 ∷ optIn 4 ∷ setClock 17 room ∷ optOut 4 ∷ optOut 2 ∷ optOut 2 ∷ setClock 18 room ∷ optIn 4 ∷ optOut 2
+    ∷ setClock 39 room ∷ deliver three ∷ optOut 1 ∷ list [] ∷ setClock 42 room ∷ []
 
 abbrev row : ℕ → ℕ → ℕ → Row
 row t i k = record { time = t; id = i; code = k }
@@ -75,6 +80,17 @@ cancelledBy t = with (deliver one ∷ setClock t room ∷ cancel 1 ∷ [])
 abbrev pub uncancelled : List Call
 uncancelled = with (deliver one ∷ [])
 
+-- 10 to 13 on control 0
+abbrev pub brief : Event
+brief = drawnBack 1 0 1 100 10 3
+
+-- the user out from its start, a second later, never
+abbrev pub outBy : ℕ → List Call
+outBy t = with (deliver brief ∷ setClock t room ∷ optOut 1 ∷ [])
+
+abbrev pub unchosen : List Call
+unchosen = with (deliver brief ∷ [])
+
 -- one event more
 abbrev pub another : List Call
 another = with (deliver one ∷ deliver (drawnBack 6 0 2 100 10 20) ∷ [])
@@ -94,18 +110,54 @@ shorter = with (deliver one ∷ []) ++ (deliver two ∷ setClock 14 room ∷ [])
 abbrev pub ranked : ℕ → ℕ → List Call
 ranked p q = addProgram 0 p 1 ∷ addProgram 1 q 1 ∷ deliver one ∷ deliver (drawnBack 5 1 1 100 10 20) ∷ setClock 14 room ∷ []
 
+-- What the premise compares: an id that is used again, cancelled the first time, and chosen on the second; and choices on another event, the last one first.
+abbrev reused : History
+reused =
+    record {
+      programs = [];
+      brought =
+          record { event = one; receipt = 0; cancelled = some 12; choices = [] }
+          ∷ record { event = three; receipt = 33; cancelled = none; choices = record { clock = 39; out = true } ∷ [] }
+          ∷ record { event = two; receipt = 0; cancelled = none; choices = record { clock = 18; out = false } ∷ record { clock = 17; out = true } ∷ [] }
+          ∷ [];
+      last = 42;
+    }
+
+-- things as numbers, one after the other
+abbrev all : {A : Type 0} → (A → List ℕ) → List A → List ℕ
+all numbers [] = []
+all numbers (x ∷ xs) = numbers x ++ all numbers xs
+
+abbrev cancellationNumbers : Cancellation → List ℕ
+cancellationNumbers c = eventNumbers (c .event) ++ (c .clock ∷ [])
+
+abbrev choicesNumbers : Choices → List ℕ
+choicesNumbers c = eventNumbers (c .event) ++ (length (c .made) ∷ all (λ m. m .clock ∷ cond (m .out) 1 0 ∷ []) (c .made))
+
+-- events, cancellations and choices by record, with all fields, and not by id; each with its clock
+unfoldable pub comparedHold : Bool
+comparedHold =
+    same (all eventNumbers (eventsOf reused)) (eventNumbers one ++ (eventNumbers three ++ eventNumbers two))
+    && same (all cancellationNumbers (cancellationsOf reused)) (eventNumbers one ++ (12 ∷ []))
+    && same (all choicesNumbers (choicesOf reused)) (eventNumbers one ++ (0 ∷ (eventNumbers three ++ (1 ∷ 39 ∷ 1 ∷ (eventNumbers two ++ (2 ∷ 18 ∷ 0 ∷ 17 ∷ 1 ∷ []))))))
+
 pub record Sample : Type 0 where
+  -- what the premise compares of a history
+  pub compared : comparedHold ≡ true
   -- they meet the premise
   pub premise : SameArrivals (historyOf plainly) (historyOf otherwise)
   -- they differ
-  pub lengths : (length plainly ≡ 12) × (length otherwise ≡ 24)
+  pub lengths : (length plainly ≡ 19) × (length otherwise ≡ 34)
   -- and these are the joined rows of both
-  pub rows : joinedRows plainly ≡ bytes (row 10 1 2 ∷ row 12 5 2 ∷ row 15 5 7 ∷ row 15 2 2 ∷ row 16 4 2 ∷ row 20 2 3 ∷ row 30 4 3 ∷ row 40 1 2 ∷ [])
+  pub rows : joinedRows plainly ≡ bytes (row 10 1 2 ∷ row 12 5 2 ∷ row 15 5 7 ∷ row 15 2 2 ∷ row 16 4 2 ∷ row 20 2 8 ∷ row 30 4 9 ∷ row 40 1 2 ∷ [])
   pub results : SameResults plainly otherwise
-  -- each part of the premise is needed: receipt before the drawn start, cancellations and their clocks, events with every field, programs, the last reading
+  -- each part of the premise is needed: receipt before the drawn start, cancellations and their clocks, choices and theirs, events with every field, programs,
+  -- the last reading
   pub in-time : Missed prompt tardy
   pub cancellation-clocks : Missed (cancelledBy 9) (cancelledBy 10)
   pub cancellations : Missed (cancelledBy 9) uncancelled
+  pub choice-clocks : Missed (outBy 9) (outBy 10)
+  pub choices : Missed (outBy 9) unchosen
   pub events : Missed uncancelled another
   pub fields : Missed uncancelled redrawn
   pub programs : Missed (ranked 1 2) (ranked 2 1)

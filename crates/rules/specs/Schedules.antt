@@ -15,27 +15,39 @@ use Rattle.rules.specs.Period.{effectiveStart, effectiveEnd}
 use Rattle.rules.specs.Holding.{Holding, noHolding, holdingAt}
 use Rattle.rules.specs.Rows.{Row, rowsAt}
 use Rattle.rules.specs.Calls.{programOf}
-use Rattle.rules.specs.History.{Added, Brought, History}
+use Rattle.rules.specs.History.{Added, Chosen, Brought, History}
 
--- an event with its effective start, and the clock of its cancellation if it has one
+-- an event with its effective start, the clock of its cancellation if it has one, and its choices, the last one first
 pub record Timed : Type 0 where
   pub event : Event
   pub begins : ℕ
   pub cancelled : Option ℕ
+  pub choices : List Chosen
 
 abbrev pub timed : Brought → Timed
-timed b = record { event = b .event; begins = effectiveStart (b .event) (b .receipt); cancelled = b .cancelled }
+timed b = record { event = b .event; begins = effectiveStart (b .event) (b .receipt); cancelled = b .cancelled; choices = b .choices }
 
 -- whether it was cancelled at clock t or before
 abbrev pub goneBy : ℕ → Option ℕ → Bool
 goneBy t none = false
 goneBy t (some k) = leb k t
 
+-- Document 02, #102: whether the user is out after the calls at clock t, by the last choice made then or before
+abbrev pub outBy : ℕ → List Chosen → Bool
+outBy t [] = false
+outBy t (c ∷ cs) = cond (leb (c .clock) t) (c .out) (outBy t cs)
+
 -- Who holds a control, a cancellation at clock k acts after everything of moment k: the event after moment t and the calls at clock t
 abbrev pub asEntry : ℕ → Timed → Holding → Entry
 asEntry t x k =
     let gone = goneBy t (x .cancelled) in
-    record { event = x .event; begins = x .begins; held = cond gone 0 (k .held); cancelled = gone }
+    record {
+      event = x .event;
+      begins = x .begins;
+      held = cond gone 0 (k .held);
+      cancelled = gone;
+      choice = record { out = outBy t (x .choices); «was_in» = k .«was_in»; «was_out» = k .«was_out» };
+    }
 
 -- Effective period, held: whether the event is after moment t
 abbrev pub living : ℕ → Timed → Bool

@@ -4,6 +4,7 @@ use mathlib.Core.Bool.{Bool, true, false, cond, _&&_}
 use mathlib.Core.List.{List, [], _∷_, _++_, map}
 use lib.Dec.{eqb}
 use Rattle.rules.specs.declared.Program.{Program}
+use Rattle.rules.specs.declared.Choice.{Choice}
 use Rattle.rules.specs.declared.Entry.{Entry}
 use Rattle.rules.specs.declared.Record.{Record}
 use Rattle.rules.specs.Calls.{Call, Governor, byEvent, byProgram, byNone, Value, nothing, code, count, governor, lentBytes, lentList}
@@ -27,9 +28,13 @@ abbrev pub programNumbers : List Program → List ℕ
 programNumbers [] = []
 programNumbers (p ∷ ps) = cond (p .added) 1 0 ∷ p .primacy ∷ p .defaults ∷ programNumbers ps
 
--- a held event as numbers: its fields, effective start, held mask, cancelled mark
+-- a choice as numbers: out now, was in, was out
+abbrev pub choiceNumbers : Choice → List ℕ
+choiceNumbers c = cond (c .out) 1 0 ∷ cond (c .«was_in») 1 0 ∷ cond (c .«was_out») 1 0 ∷ []
+
+-- a held event as numbers: its fields, effective start, held mask, cancelled mark, choice
 abbrev pub entryNumbers : Entry → List ℕ
-entryNumbers h = eventNumbers (h .event) ++ (h .begins ∷ h .held ∷ cond (h .cancelled) 1 0 ∷ [])
+entryNumbers h = eventNumbers (h .event) ++ (h .begins ∷ h .held ∷ cond (h .cancelled) 1 0 ∷ choiceNumbers (h .choice))
 
 abbrev pub entriesNumbers : List Entry → List ℕ
 entriesNumbers [] = []

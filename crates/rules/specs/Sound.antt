@@ -6,6 +6,7 @@ use lib.Dec.{leb, ltb, eqb}
 use lib.ListN.{length, take, drop}
 use Rattle.rules.specs.declared.Event.{Event}
 use Rattle.rules.specs.declared.Entry.{Entry}
+use Rattle.rules.specs.declared.Choice.{Choice}
 use Rattle.rules.specs.declared.Program.{Program}
 use Rattle.rules.specs.declared.Schedule.{Schedule}
 use Rattle.rules.specs.Lists.{each, pairs}
@@ -52,9 +53,15 @@ withinLimits s = leb (s .clock) lastClock && leb (s .count) mostEvents
 unfoldable pub soundProgram : Program → Bool
 soundProgram p = cond (p .added) (usable (p .primacy)) (eqb (p .primacy) 0 && eqb (p .defaults) 0)
 
+-- document 02, #102: whether the user was in, or was out, for a second in which the event held something
+abbrev pub anyCounted : Choice → Bool
+anyCounted c = c .«was_in» || c .«was_out»
+
 -- an unused event place is zero
 unfoldable pub unused : Entry → Bool
-unused h = sameEvent (h .event) noEvent && (eqb (h .begins) 0 && (eqb (h .held) 0 && not (h .cancelled)))
+unused h =
+    sameEvent (h .event) noEvent
+    && (eqb (h .begins) 0 && (eqb (h .held) 0 && (not (h .cancelled) && (not (h .choice .out) && not (anyCounted (h .choice))))))
 
 -- ids ascend, no two the same
 unfoldable pub ascending : Entry → Entry → Bool
@@ -88,6 +95,14 @@ heldSinceStart clock h = leb (h .begins) clock || eqb (h .held) 0
 unfoldable pub noneIfCancelled : Entry → Bool
 noneIfCancelled h = not (h .cancelled) || eqb (h .held) 0
 
+-- document 02, #102: the user was neither in nor out before the start
+unfoldable pub countedSinceStart : ℕ → Entry → Bool
+countedSinceStart clock h = leb (h .begins) clock || not (anyCounted (h .choice))
+
+-- document 02, #102: the user was in or out while the held mask is not zero
+unfoldable pub countedIfHeld : Entry → Bool
+countedIfHeld h = eqb (h .held) 0 || anyCounted (h .choice)
+
 -- two held masks share no bit
 unfoldable pub apart : Entry → Entry → Bool
 apart h o = eqb (cut (h .held) (o .held)) (h .held)
@@ -95,7 +110,8 @@ apart h o = eqb (cut (h .held) (o .held)) (h .held)
 -- the rules of one entry
 unfoldable pub soundEntry : List Program → ℕ → Entry → Bool
 soundEntry ps clock h =
-    ofProgram ps h && (wellFormed h && (inPeriod h && (lasting clock h && (carried h && (heldSinceStart clock h && noneIfCancelled h)))))
+    ofProgram ps h && (wellFormed h && (inPeriod h && (lasting clock h && (carried h && (heldSinceStart clock h && (noneIfCancelled h
+    && (countedSinceStart clock h && countedIfHeld h)))))))
 
 -- all rules
 unfoldable pub sound : Schedule → Bool

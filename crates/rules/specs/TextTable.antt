@@ -80,16 +80,29 @@ conversation =
     ∷ "02000000000000000A" says "4000 10 6"
     ∷ quiet "02000000000000000A"
     ∷ "02000000000000004D" says "refused 11"
+    -- #102: choices, and choices that repeat the present one
+    ∷ quiet "070000000000000009"
+    ∷ "060000000000000009" says "4000 9 4"
+    ∷ quiet "060000000000000009"
+    ∷ "070000000000000009" says "4000 9 5"
+    ∷ "06000000000000000A" says "4000 10 4"
+    ∷ "06FFFFFFFFFFFFFFFF" says "4000 18446744073709551615 4"
+    ∷ "06000000000000004D" says "refused 11"
+    ∷ "07000000000000004D" says "refused 11"
     ∷ "030000000000000F9F" says "refused 12"
     -- rows of one moment; an event that holds a control, the default of one whose event was cancelled
     ∷ "030000000000001388" prints ("5000 10000000000000000000 7" ∷ "5000 0 2" ∷ "5000 9 2" ∷ "5000 18446744073709551615 2" ∷ [])
     ∷ "0500" says "0 event 9"
     ∷ "0501" says "1 default 7"
+    ∷ "0502" says "2 none"
+    ∷ "07FFFFFFFFFFFFFFFF" says "5000 18446744073709551615 5"
     ∷ "0502" says "2 event 18446744073709551615"
+    ∷ "060000000000000009" says "5000 9 4"
+    ∷ "0500" says "0 default 0"
     ∷ "0503" says "3 event 0"
     ∷ "02FFFFFFFFFFFFFFFF" says "5000 18446744073709551615 6"
     ∷ "0502" says "2 none"
-    ∷ "030000000000001770" prints ("5100 0 3" ∷ "5600 9 3" ∷ [])
+    ∷ "030000000000001770" prints ("5100 0 3" ∷ "5600 9 8" ∷ [])
     ∷ quiet "030000000000001770"
     -- times of ten digits; the last reading and the next
     ∷ "010000000000000063000000000100000064FFFFFFFF000000010000000000000000" says "6000 99 1"

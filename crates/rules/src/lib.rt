@@ -2,7 +2,7 @@
 // The functions below the records do nothing: each carries a theorem as its promise, so that a reader of the code meets it.
 ghost use mathlib.Core.Path.{_≡_};
 ghost use mathlib.Core.Bool.{true};
-ghost use Rattle.rules.specs.Records.{noEvent, noEntry, fresh, pad};
+ghost use Rattle.rules.specs.Records.{noEvent, noChoice, noEntry, fresh, pad};
 ghost use Rattle.rules.specs.Sound.{sound};
 ghost use Rattle.rules.specs.Calls.{recordOf};
 ghost use Rattle.rules.specs.Image.{image, loaded, imaged};
@@ -22,6 +22,7 @@ ghost use Rattle.rules.specs.FaceTable.{FaceTables};
 ghost use Rattle.rules.specs.History.{historyOf};
 ghost use Rattle.rules.specs.ScheduleTable.{ScheduleTables, historiesHold, historyTable};
 ghost use Rattle.rules.specs.MomentTable.{momentsHold, momentTable};
+ghost use Rattle.rules.specs.ChoiceTable.{choicesHold, choiceTable};
 
 mod ids;
 pub mod times;
@@ -85,12 +86,20 @@ pub struct Dated {
     pub event: Event,
 }
 
-// Frames and image. An event that is held: its effective start, the controls that it holds now, whether it is cancelled.
+// Document 02, #102. The user's choice on a held event: whether the user is out now, was in for a second in which it held something, was out for one.
+pub struct Choice {
+    pub out: bool,
+    pub was_in: bool,
+    pub was_out: bool,
+}
+
+// Frames and image. An event that is held: its effective start, the controls that it holds now, whether it is cancelled, the user's choice.
 pub struct Entry {
     pub event: Event,
     pub begins: u64,
     pub held: u32,
     pub cancelled: bool,
+    pub choice: Choice,
 }
 
 // Calls. What a listing gives for each held event. Document 02, #101: with the moment at which it might begin at the earliest.
@@ -124,6 +133,8 @@ pub enum Frame {
     Clock(u64),
     Program(u8, u8, u32),
     Ask(u8),
+    OptOut(Id),
+    OptIn(Id),
 }
 
 pub enum Line {
@@ -162,11 +173,26 @@ impl Event {
     }
 }
 
+impl Choice {
+    // A new event is in, and has held nothing.
+    pub fn none() -> Choice
+        ensures { λ r. ⌜ r ≡ noChoice ⌝ }
+    {
+        Choice {
+            out: false,
+            was_in: false,
+            was_out: false,
+        }
+    }
+}
+
 impl Entry {
-    // Frames and image. Bytes of an event entry, and the place of its mark among them.
-    pub const SIZE: usize = Event::SIZE + 13;
+    // Frames and image. Bytes of an event entry, and the places of its mark and of its choice among them.
+    pub const SIZE: usize = Event::SIZE + 14;
 
     pub const MARK: usize = Event::SIZE + 12;
+
+    pub const CHOICE: usize = Event::SIZE + 13;
 
     // A place that is not in use.
     pub fn none() -> Entry
@@ -177,6 +203,7 @@ impl Entry {
             begins: 0,
             held: 0,
             cancelled: false,
+            choice: Choice::none(),
         }
     }
 }
@@ -270,6 +297,11 @@ pub fn moments_passed()
     ensures { λ _. ⌜ momentsHold momentTable ≡ true ⌝ }
 {}
 
+// Document 02, #102: users who opt out, worked cases.
+pub fn choices_counted()
+    ensures { λ _. ⌜ choicesHold (replies (pad fresh)) choiceTable ≡ true ⌝ }
+{}
+
 // Frames and image: each kind of frame with its fields, and lines that are no frame.
 pub fn lines_read()
     ensures { λ _. ⌜ linesHold lineTable ≡ true ⌝ }
@@ -295,7 +327,7 @@ pub fn clauses()
     ensures { λ _. ⌜ Clauses ⌝ }
 {}
 
-// Demand 3: the order of arrival does not count. Any two lists of calls that bring the same programs, events and cancellations to the same last
+// Demand 3: the order of arrival does not count. Any two lists of calls that bring the same programs, events, cancellations and choices to the same last
 // reading give the same rows, listings and answers, and all of them are the schedule's; after no call does a control have two holders.
 pub fn arrival_order()
     ensures { λ _. ⌜ ArrivalOrder ⌝ }

@@ -8,7 +8,7 @@ ghost use lib.ListN.{take, drop};
 ghost use Rattle.rules.specs.declared.Program.{Program};
 ghost use Rattle.rules.specs.Lists.{each};
 ghost use Rattle.rules.specs.Records.{idNumber, idOf, cut, lastProgram, mostEvents, programAt};
-ghost use Rattle.rules.specs.Sound.{soundProgram, unused, inPeriod, lasting, carried, heldSinceStart, noneIfCancelled, soundEntry, sound};
+ghost use Rattle.rules.specs.Sound.{soundProgram, unused, inPeriod, lasting, carried, heldSinceStart, noneIfCancelled, countedSinceStart, countedIfHeld, soundEntry, sound};
 ghost use Rattle.sound.specs.HeldRules.{ProgramPlace, heldRules};
 use rules::Entry;
 use rules::Event;
@@ -31,7 +31,9 @@ fn place(program: u8) -> usize
 fn is_unused(h: Entry) -> bool
     ensures { λ r. ⌜ r ≡ unused h ⌝ }
 {
-    h.event.equals(Event::none()) & ((h.begins == 0) & ((h.held == 0) & !h.cancelled))
+    let c = h.choice;
+    h.event.equals(Event::none())
+        & ((h.begins == 0) & ((h.held == 0) & (!h.cancelled & (!c.out & !(c.was_in | c.was_out)))))
 }
 
 // A program that was added has a primacy that may be used; an unused place is zero.
@@ -65,12 +67,21 @@ fn is_rightly_held(h: Entry, clock: u64) -> bool
         & (((h.begins <= clock) | (h.held == 0)) & (!h.cancelled | (h.held == 0)))
 }
 
+// Document 02, #102. The user was neither in nor out before the start, and was one of them while the held mask is not zero.
+fn is_rightly_counted(h: Entry, clock: u64) -> bool
+    ensures { λ r. ⌜ r ≡ countedSinceStart clock h && countedIfHeld h ⌝ }
+{
+    let counted = h.choice.was_in | h.choice.was_out;
+    ((h.begins <= clock) | !counted) & ((h.held == 0) | counted)
+}
+
 // The rules of one entry by itself; `p` is its program, if its number is one.
 fn is_sound_entry(h: Entry, p: Program, clock: u64) -> bool
     ensures { λ r. ⌜ ((ps : List Program) → (h .event .program ≤ lastProgram → programAt ps (h .event .program) ≡ p) → r ≡ soundEntry ps clock h) ⌝ }
 {
     ((h.event.program <= Program::LAST) & p.added)
-        & (!h.event.is_malformed() & (is_in_period(h, clock) & is_rightly_held(h, clock)))
+        & (!h.event.is_malformed()
+            & (is_in_period(h, clock) & (is_rightly_held(h, clock) & is_rightly_counted(h, clock))))
 }
 
 // An entry with those after it: `next` is the id of the first if there are any, `used` all that they hold.

@@ -249,7 +249,9 @@ pub(crate) fn told(
     }
     match f {
         Frame::Event(e) => code_text(out, at, clock, e.id, answer),
-        Frame::Cancel(id) => code_text(out, at, clock, id, answer),
+        Frame::Cancel(id) | Frame::OptOut(id) | Frame::OptIn(id) => {
+            code_text(out, at, clock, id, answer)
+        }
         Frame::Clock(_) => rows_text(out, at, rows, answer.count()),
         Frame::Program(_, _, _) => at,
         Frame::Ask(control) => ask_text(out, at, control, answer),

@@ -2,6 +2,7 @@
 //! another number of times.
 
 use oracle::proved::Call;
+use oracle::Choice;
 
 extern "C" {
     /// In `blocks.c`. Numbers that are too large do not count.
@@ -9,9 +10,9 @@ extern "C" {
 }
 
 const RETURNS: usize = 128;
-const FRESH: usize = 6 * RETURNS;
-const HELD: usize = 7 * RETURNS;
-const TEXTS: usize = 8 * RETURNS;
+const FRESH: usize = 8 * RETURNS;
+const HELD: usize = 9 * RETURNS;
+const TEXTS: usize = 10 * RETURNS;
 
 /// What a call returned, refusals and counts included, and how many events the image then held.
 pub fn saw_call(call: &Call, returned: i32, held: u8) {
@@ -22,6 +23,8 @@ pub fn saw_call(call: &Call, returned: i32, held: u8) {
         Call::Clock(..) => 3,
         Call::Ask(..) => 4,
         Call::List(_) => 5,
+        Call::Choice(_, Choice::Out) => 6,
+        Call::Choice(_, Choice::In) => 7,
     };
     saw(kind * RETURNS + place(returned));
     saw(HELD + usize::from(held));
@@ -48,8 +51,8 @@ pub fn saw_text(line: &[u8]) {
         [_, b"none"] => 16,
         [_, b"event", _] => 17,
         [_, b"default", program] => 18 + (number(program) & 7),
-        [_, _, code] => 26 + (number(code) & 7),
-        _ => 34,
+        [_, _, code] => 26 + (number(code) & 15),
+        _ => 42,
     };
     saw(TEXTS + kind);
 }

@@ -94,6 +94,7 @@ impl Host {
             Frame::Program(number, program) => Call::Program(number, program),
             Frame::Event(event) => Call::Deliver(event),
             Frame::Cancel(id) => Call::Cancel(id),
+            Frame::Choice(id, choice) => Call::Choice(id, choice),
             Frame::Clock(reading) => {
                 let rows =
                     |fast: &mut Fast| fast.set_clock(reading, usize::MAX).map_or(0, <[Row]>::len);

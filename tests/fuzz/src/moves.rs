@@ -5,7 +5,7 @@
 use oracle::event::LAST_CLOCK;
 use oracle::frame::{read_event, EVENT_FIELDS};
 use oracle::image::{ENTRY_BYTES, IMAGE_BYTES, RECORD_BYTES};
-use oracle::{Event, Frame, Program};
+use oracle::{Choice, Event, Frame, Program};
 
 /// More would make a run slow and show little.
 const MOST_MOVES: usize = 300;
@@ -122,7 +122,8 @@ impl<'a> Moves<'a> {
             1..=4 => self.deliver(Moves::near_event)?,
             5 => self.deliver(Moves::whole_event)?,
             6 => Move::Frame(Frame::Cancel(self.byte().map(id_of)?), Room::AMPLE),
-            7 | 8 => self.clock_after(0)?,
+            7 => self.clock_after(0)?,
+            8 => self.choose()?,
             9 => self.clock_after(8)?,
             10 => self.whole_number()?,
             11 => Move::Frame(Frame::Ask(self.byte()?), Room(self.byte()?)),
@@ -194,13 +195,19 @@ impl<'a> Moves<'a> {
         Move::Frame(Frame::Clock(reading), room)
     }
 
+    fn choose(&mut self) -> Option<Move<'a>> {
+        let [choice, id] = self.take()?;
+        Some(Move::Frame(choice_of(choice, id_of(id)), Room::AMPLE))
+    }
+
     /// A reading or an id of 8 bytes.
     fn whole_number(&mut self) -> Option<Move<'a>> {
-        let [choice, room] = self.take()?;
+        let [kind, room] = self.take()?;
         let number = u64::from_be_bytes(self.take()?);
-        Some(match choice & 1 {
+        Some(match kind & 3 {
             0 => self.clock(number, Room(room)),
-            _ => Move::Frame(Frame::Cancel(number), Room::AMPLE),
+            1 => Move::Frame(Frame::Cancel(number), Room::AMPLE),
+            other => Move::Frame(choice_of(other, number), Room::AMPLE),
         })
     }
 
@@ -258,6 +265,13 @@ impl<'a> Iterator for Moves<'a> {
             return self.next_again();
         }
         self.read()
+    }
+}
+
+fn choice_of(byte: u8, id: u64) -> Frame {
+    match byte & 1 {
+        0 => Frame::Choice(id, Choice::Out),
+        _ => Frame::Choice(id, Choice::In),
     }
 }
 

@@ -4,7 +4,7 @@
 use crate::image::{IMAGE_BYTES, RECORD_BYTES};
 use crate::proved::{self, Call};
 use crate::random::Dice;
-use crate::{Answer, Calls, Event, Fast, Program, Record, Row, Scheduler};
+use crate::{Answer, Calls, Choice, Event, Fast, Program, Record, Row, Scheduler};
 
 /// An error tells what differs.
 pub type Outcome<T = ()> = Result<T, String>;
@@ -52,6 +52,10 @@ impl Calls for Broken {
         Err(2)
     }
 
+    fn choose(&mut self, _: u64, _: Choice) -> Result<u8, u8> {
+        Err(2)
+    }
+
     fn set_clock(&mut self, _: u64, _: usize) -> Result<&[Row], u8> {
         Err(2)
     }
@@ -71,6 +75,7 @@ fn answer(oracle: &mut impl Calls, call: &Call, lent: &mut [u8]) -> Result<i32, 
         Call::Program(number, program) => oracle.add_program(number, program).map(|()| 0),
         Call::Deliver(event) => oracle.deliver(&event).map(i32::from),
         Call::Cancel(id) => oracle.cancel(id).map(i32::from),
+        Call::Choice(id, choice) => oracle.choose(id, choice).map(i32::from),
         Call::Clock(reading, room) => {
             let rows = oracle.set_clock(reading, room)?;
             write_front(lent, rows.iter().map(Row::bytes));

@@ -1,5 +1,6 @@
-//! The six calls, and the lines and printed output that rest on them.
+//! The calls, and the lines and printed output that rest on them.
 
+use crate::choice::Choice;
 use crate::event::{Event, Program};
 use crate::frame::{decode, Frame};
 use crate::image::Record;
@@ -25,15 +26,20 @@ impl Row {
         bytes
     }
 
-    /// Rows of one moment go by code in the order 3, 7, 2.
+    /// Of one moment the rows of ends come first, then 7, then 2.
     pub fn place(&self) -> (u64, u8, u64) {
         let class = match self.code {
-            3 => 0,
+            code if is_end(code) => 0,
             7 => 1,
             _ => 2,
         };
         (self.time, class, self.id)
     }
+}
+
+/// Whether the code is that of an event that held something until its end.
+pub fn is_end(code: u8) -> bool {
+    matches!(code, 3 | 8 | 9 | 10)
 }
 
 #[derive(Clone, Copy, PartialEq, Eq, Debug)]
@@ -54,6 +60,9 @@ pub trait Calls {
 
     /// Gives code 6, or 0 if the event was cancelled before.
     fn cancel(&mut self, id: u64) -> Result<u8, u8>;
+
+    /// Opts out of the event or in. Gives the code of the choice, or 0 if it is the present one.
+    fn choose(&mut self, id: u64, choice: Choice) -> Result<u8, u8>;
 
     /// `room` is the length of the caller's buffer in bytes.
     fn set_clock(&mut self, reading: u64, room: usize) -> Result<&[Row], u8>;
@@ -78,6 +87,10 @@ pub trait Calls {
             }
             Frame::Cancel(id) => {
                 let code = self.cancel(id)?;
+                print_code(self.clock(), id, code, out);
+            }
+            Frame::Choice(id, choice) => {
+                let code = self.choose(id, choice)?;
                 print_code(self.clock(), id, code, out);
             }
             Frame::Clock(reading) => print_rows(self.set_clock(reading, AMPLE)?, out),

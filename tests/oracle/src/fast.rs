@@ -2,6 +2,7 @@
 //! the one that keeps the history.
 
 use crate::calls::{Answer, Calls, Row, ROW_BYTES};
+use crate::choice::{Choice, Participation};
 use crate::event::{
     check_clock, check_program, default_program, Event, Program, Programs, Rank, CONTROLS,
     MOST_EVENTS,
@@ -43,6 +44,10 @@ pub struct Fast {
     /// The places whose mask is not zero, and all these masks joined.
     holding: Places,
     taken: u32,
+    /// The places whose user is out, and those whose user was in, or out, for a held second.
+    out: Places,
+    was_in: Places,
+    was_out: Places,
     /// The changes to come, the next one last.
     agenda: Vec<Change>,
     rows: Vec<Row>,
@@ -60,6 +65,9 @@ impl Fast {
             free: ALL_PLACES,
             holding: 0,
             taken: 0,
+            out: 0,
+            was_in: 0,
+            was_out: 0,
             agenda: Vec::with_capacity(2 * MOST_EVENTS),
             rows: Vec::with_capacity(2 * MOST_EVENTS),
         }
@@ -97,7 +105,35 @@ impl Fast {
             effective_start: place.effective_start,
             held: self.masks[at],
             cancelled: place.cancelled,
+            participation: self.participation(at),
         }
+    }
+
+    fn choice(&self, at: usize) -> Choice {
+        match self.out >> at & 1 {
+            0 => Choice::In,
+            _ => Choice::Out,
+        }
+    }
+
+    fn participation(&self, at: usize) -> Participation {
+        Participation {
+            choice: self.choice(at),
+            was_in: self.was_in >> at & 1 == 1,
+            was_out: self.was_out >> at & 1 == 1,
+        }
+    }
+
+    fn set_participation(&mut self, at: usize, participation: Participation) {
+        let Participation {
+            choice,
+            was_in,
+            was_out,
+        } = participation;
+        let others = !(1 << at);
+        self.out = self.out & others | u64::from(choice == Choice::Out) << at;
+        self.was_in = self.was_in & others | u64::from(was_in) << at;
+        self.was_out = self.was_out & others | u64::from(was_out) << at;
     }
 
     pub fn programs(&self) -> &Programs {
@@ -130,6 +166,7 @@ impl Fast {
             cancelled: entry.cancelled,
         };
         self.set_mask(at, entry.held);
+        self.set_participation(at, entry.participation);
         self.taken |= entry.held;
         self.plan(event.effective_end() << TIME_SHIFT | at as u64);
         if entry.effective_start > self.clock {
@@ -163,22 +200,41 @@ impl Fast {
             if moment > reading {
                 break;
             }
+            self.hold_until(moment - 1);
             self.pass(moment);
         }
-        self.clock = reading;
+        self.hold_until(reading);
     }
 
-    /// Everything of one moment, with its rows.
+    /// The seconds after the clock up to this one, in which nothing starts or ends.
+    fn hold_until(&mut self, second: u64) {
+        if second > self.clock {
+            self.clock = second;
+            self.count_second();
+        }
+    }
+
+    /// Who holds something at the clock was in or out for a held second.
+    fn count_second(&mut self) {
+        self.was_in |= self.holding & !self.out;
+        self.was_out |= self.holding & self.out;
+    }
+
+    /// Everything of the second after the clock, with its rows.
     fn pass(&mut self, moment: u64) {
         let ending = self.take_changes(moment << TIME_SHIFT | START);
         let starting = self.take_changes((moment + 1) << TIME_SHIFT);
-        self.report(moment, 3, ending & self.holding);
+        self.report(moment, ending & self.holding, |fast, at| {
+            fast.participation(at).end_code()
+        });
         for at in bits(ending) {
             self.drop_event(at);
         }
         if starting != 0 {
             self.start_all(moment, starting);
         }
+        self.clock = moment;
+        self.count_second();
     }
 
     /// Takes what comes before the given change off the agenda.
@@ -209,8 +265,8 @@ impl Fast {
                 self.start(at);
             }
         }
-        self.report(moment, 7, (before | started) & !self.holding);
-        self.report(moment, 2, started & self.holding);
+        self.report(moment, (before | started) & !self.holding, |_, _| 7);
+        self.report(moment, started & self.holding, |_, _| 2);
     }
 
     fn start(&mut self, at: usize) {
@@ -239,11 +295,11 @@ impl Fast {
         claim
     }
 
-    /// Adds rows of one moment and code, by id.
-    fn report(&mut self, time: u64, code: u8, places: Places) {
+    /// Adds rows of one moment, by id.
+    fn report(&mut self, time: u64, places: Places, code: impl Fn(&Self, usize) -> u8) {
         let first = self.rows.len();
         for at in bits(places) {
-            let id = self.places[at].event.id;
+            let (id, code) = (self.places[at].event.id, code(self, at));
             self.rows.push(Row { time, id, code });
         }
         if self.rows.len() - first > 1 {
@@ -304,6 +360,7 @@ impl Calls for Fast {
             effective_start: event.effective_start(self.clock),
             held: 0,
             cancelled: false,
+            participation: Participation::default(),
         };
         self.put(order, &entry);
         Ok(1)
@@ -320,6 +377,16 @@ impl Calls for Fast {
         Ok(6)
     }
 
+    fn choose(&mut self, id: u64, choice: Choice) -> Result<u8, u8> {
+        let order = self.find(id).map_err(|_| 11)?;
+        let at = self.held[order].1;
+        if self.choice(at) == choice {
+            return Ok(0);
+        }
+        self.out ^= 1 << at;
+        Ok(choice.code())
+    }
+
     fn set_clock(&mut self, reading: u64, room: usize) -> Result<&[Row], u8> {
         check_clock(self.clock, reading)?;
         self.rows.clear();
@@ -334,7 +401,7 @@ impl Calls for Fast {
             return Ok(default);
         }
         let holds = |&at: &usize| self.masks[at] >> control & 1 == 1;
-        let holder = bits(self.holding).find(holds);
+        let holder = bits(self.holding & !self.out).find(holds);
         Ok(holder.map_or(default, |at| Answer::Event(self.places[at].event.id)))
     }
 

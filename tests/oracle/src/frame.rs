@@ -1,5 +1,6 @@
-//! Lines of hexadecimal pairs and the five frames that they may hold.
+//! Lines of hexadecimal pairs and the frames that they may hold.
 
+use crate::choice::Choice;
 use crate::event::{Event, Program};
 
 #[derive(Clone, Copy, PartialEq, Eq, Debug)]
@@ -9,6 +10,7 @@ pub enum Frame {
     Clock(u64),
     Program(u8, Program),
     Ask(u8),
+    Choice(u64, Choice),
 }
 
 pub const EVENT_FIELDS: usize = 33;
@@ -20,7 +22,7 @@ pub const LONGEST_LINE: usize = 2 * (1 + EVENT_FIELDS);
 pub fn decode(line: &[u8]) -> Option<Frame> {
     match line.len() {
         68 => decode_event(&unhex::<34>(line)?),
-        18 => decode_moment(&unhex::<9>(line)?),
+        18 => decode_number(&unhex::<9>(line)?),
         14 => decode_program(&unhex::<7>(line)?),
         4 => decode_question(&unhex::<2>(line)?),
         _ => None,
@@ -32,11 +34,13 @@ fn decode_event(bytes: &[u8; 34]) -> Option<Frame> {
     (kind == 1).then(|| Frame::Event(read_event(fields)))
 }
 
-fn decode_moment(bytes: &[u8; 9]) -> Option<Frame> {
+fn decode_number(bytes: &[u8; 9]) -> Option<Frame> {
     let number = u64::from_be_bytes(part(bytes, 1));
     match bytes[0] {
         2 => Some(Frame::Cancel(number)),
         3 => Some(Frame::Clock(number)),
+        6 => Some(Frame::Choice(number, Choice::Out)),
+        7 => Some(Frame::Choice(number, Choice::In)),
         _ => None,
     }
 }
@@ -89,26 +93,27 @@ pub fn part<const N: usize>(bytes: &[u8], from: usize) -> [u8; N] {
 /// The frame as the upper-case line that `decode` takes back.
 pub fn encode(frame: &Frame) -> Vec<u8> {
     let mut bytes = Vec::with_capacity(1 + EVENT_FIELDS);
-    match frame {
+    match *frame {
         Frame::Event(event) => {
             bytes.push(1);
-            write_event(event, &mut bytes);
+            write_event(&event, &mut bytes);
         }
-        Frame::Cancel(id) => {
-            bytes.push(2);
-            bytes.extend_from_slice(&id.to_be_bytes());
-        }
-        Frame::Clock(reading) => {
-            bytes.push(3);
-            bytes.extend_from_slice(&reading.to_be_bytes());
-        }
+        Frame::Cancel(id) => write_number(2, id, &mut bytes),
+        Frame::Clock(reading) => write_number(3, reading, &mut bytes),
         Frame::Program(number, program) => {
-            bytes.extend_from_slice(&[4, *number, program.primacy]);
+            bytes.extend_from_slice(&[4, number, program.primacy]);
             bytes.extend_from_slice(&program.defaults.to_be_bytes());
         }
-        Frame::Ask(control) => bytes.extend_from_slice(&[5, *control]),
+        Frame::Ask(control) => bytes.extend_from_slice(&[5, control]),
+        Frame::Choice(id, Choice::Out) => write_number(6, id, &mut bytes),
+        Frame::Choice(id, Choice::In) => write_number(7, id, &mut bytes),
     }
     hex(&bytes)
+}
+
+fn write_number(kind: u8, number: u64, bytes: &mut Vec<u8>) {
+    bytes.push(kind);
+    bytes.extend_from_slice(&number.to_be_bytes());
 }
 
 pub fn hex(bytes: &[u8]) -> Vec<u8> {

@@ -2,6 +2,7 @@
 //! aim at the moments that matter.
 
 use crate::calls::Calls;
+use crate::choice::Choice;
 use crate::event::{is_usable, Event, Program, LAST_CLOCK, MOST_EVENTS};
 use crate::fast::Fast;
 use crate::frame::{encode, hex, Frame};
@@ -38,7 +39,7 @@ pub struct Profile {
 
 type Action = fn(&mut Generator);
 
-const ACTIONS: [Action; 17] = [
+const ACTIONS: [Action; 20] = [
     Generator::deliver_ahead,
     Generator::deliver_late,
     Generator::deliver_at_edge,
@@ -49,6 +50,9 @@ const ACTIONS: [Action; 17] = [
     Generator::cancel_now,
     Generator::cancel_at_moment,
     Generator::cancel_unknown,
+    Generator::choose_now,
+    Generator::choose_at_moment,
+    Generator::choose_unknown,
     Generator::step,
     Generator::step_to_change,
     Generator::drain,
@@ -63,8 +67,8 @@ const SOME: &[u8] = &[0, 1, 2, 65, 66, 190, 191];
 const MIXED: &str = "mixed";
 
 /// The columns of `odds`: ahead, late, edge, again, changed, spoiled, fill, cancel, at moment,
-/// unknown, step, to change, drain, bad clock, program, ask, damage.
-pub const PROFILES: [Profile; 11] = [
+/// unknown, choose, at moment, unknown, step, to change, drain, bad clock, program, ask, damage.
+pub const PROFILES: [Profile; 12] = [
     Profile {
         name: "tight",
         ids: 6,
@@ -74,7 +78,9 @@ pub const PROFILES: [Profile; 11] = [
         masks: Masks::Few,
         primacies: SOME,
         creations: 4,
-        odds: [30, 6, 2, 2, 2, 1, 0, 3, 3, 1, 20, 16, 1, 1, 1, 8, 1],
+        odds: [
+            30, 6, 2, 2, 2, 1, 0, 3, 3, 1, 5, 6, 1, 20, 16, 1, 1, 1, 8, 1,
+        ],
     },
     Profile {
         name: "full",
@@ -85,7 +91,7 @@ pub const PROFILES: [Profile; 11] = [
         masks: Masks::Spread,
         primacies: SOME,
         creations: 9,
-        odds: [60, 4, 1, 2, 1, 1, 2, 2, 2, 1, 8, 8, 0, 1, 1, 6, 1],
+        odds: [60, 4, 1, 2, 1, 1, 2, 2, 2, 1, 3, 3, 1, 8, 8, 0, 1, 1, 6, 1],
     },
     Profile {
         name: "wide",
@@ -96,7 +102,9 @@ pub const PROFILES: [Profile; 11] = [
         masks: Masks::Many,
         primacies: SOME,
         creations: 6,
-        odds: [36, 5, 1, 1, 1, 1, 0, 3, 2, 1, 12, 20, 1, 1, 1, 16, 1],
+        odds: [
+            36, 5, 1, 1, 1, 1, 0, 3, 2, 1, 4, 5, 1, 12, 20, 1, 1, 1, 16, 1,
+        ],
     },
     Profile {
         name: "ties",
@@ -107,7 +115,9 @@ pub const PROFILES: [Profile; 11] = [
         masks: Masks::Few,
         primacies: &[1],
         creations: 2,
-        odds: [40, 4, 1, 1, 1, 0, 0, 2, 2, 0, 12, 20, 1, 0, 1, 8, 0],
+        odds: [
+            40, 4, 1, 1, 1, 0, 0, 2, 2, 0, 3, 5, 0, 12, 20, 1, 0, 1, 8, 0,
+        ],
     },
     Profile {
         name: "late",
@@ -118,7 +128,9 @@ pub const PROFILES: [Profile; 11] = [
         masks: Masks::Few,
         primacies: SOME,
         creations: 5,
-        odds: [8, 40, 10, 2, 2, 1, 0, 2, 3, 1, 14, 16, 1, 1, 1, 8, 0],
+        odds: [
+            8, 40, 10, 2, 2, 1, 0, 2, 3, 1, 4, 6, 1, 14, 16, 1, 1, 1, 8, 0,
+        ],
     },
     Profile {
         name: "reuse",
@@ -129,7 +141,9 @@ pub const PROFILES: [Profile; 11] = [
         masks: Masks::Few,
         primacies: &[0, 1, 1, 2],
         creations: 2,
-        odds: [40, 8, 3, 2, 2, 0, 0, 3, 3, 2, 16, 20, 4, 0, 1, 6, 0],
+        odds: [
+            40, 8, 3, 2, 2, 0, 0, 3, 3, 2, 5, 8, 2, 16, 20, 4, 0, 1, 6, 0,
+        ],
     },
     Profile {
         name: "cancel",
@@ -140,7 +154,22 @@ pub const PROFILES: [Profile; 11] = [
         masks: Masks::One,
         primacies: SOME,
         creations: 3,
-        odds: [36, 4, 1, 2, 1, 0, 0, 8, 16, 3, 12, 12, 1, 0, 1, 10, 0],
+        odds: [
+            36, 4, 1, 2, 1, 0, 0, 8, 16, 3, 5, 12, 1, 12, 12, 1, 0, 1, 10, 0,
+        ],
+    },
+    Profile {
+        name: "choices",
+        ids: 7,
+        ahead: 6,
+        longest: 9,
+        step: 2,
+        masks: Masks::Few,
+        primacies: SOME,
+        creations: 3,
+        odds: [
+            24, 4, 1, 1, 1, 0, 0, 2, 3, 0, 16, 40, 2, 8, 8, 1, 0, 1, 10, 0,
+        ],
     },
     Profile {
         name: "refuse",
@@ -151,7 +180,9 @@ pub const PROFILES: [Profile; 11] = [
         masks: Masks::Few,
         primacies: SOME,
         creations: 5,
-        odds: [12, 3, 10, 6, 10, 20, 2, 3, 3, 8, 6, 6, 1, 8, 10, 8, 12],
+        odds: [
+            12, 3, 10, 6, 10, 20, 2, 3, 3, 8, 3, 3, 6, 6, 6, 1, 8, 10, 8, 12,
+        ],
     },
     Profile {
         name: "damage",
@@ -162,7 +193,7 @@ pub const PROFILES: [Profile; 11] = [
         masks: Masks::Few,
         primacies: SOME,
         creations: 5,
-        odds: [12, 2, 1, 1, 1, 2, 0, 2, 1, 1, 8, 6, 1, 2, 2, 4, 40],
+        odds: [12, 2, 1, 1, 1, 2, 0, 2, 1, 1, 2, 2, 1, 8, 6, 1, 2, 2, 4, 40],
     },
     Profile {
         name: "far",
@@ -173,7 +204,9 @@ pub const PROFILES: [Profile; 11] = [
         masks: Masks::Many,
         primacies: SOME,
         creations: 1 << 32,
-        odds: [30, 12, 2, 2, 2, 2, 0, 10, 3, 1, 20, 10, 0, 2, 1, 10, 1],
+        odds: [
+            30, 12, 2, 2, 2, 2, 0, 10, 3, 1, 8, 3, 1, 20, 10, 0, 2, 1, 10, 1,
+        ],
     },
     Profile {
         name: "busy",
@@ -184,7 +217,9 @@ pub const PROFILES: [Profile; 11] = [
         masks: Masks::Spread,
         primacies: SOME,
         creations: 1 << 20,
-        odds: [40, 4, 0, 3, 0, 0, 0, 3, 0, 0, 40, 0, 0, 0, 0, 10, 0],
+        odds: [
+            40, 4, 0, 3, 0, 0, 0, 3, 0, 0, 4, 0, 0, 40, 0, 0, 0, 0, 10, 0,
+        ],
     },
 ];
 
@@ -196,26 +231,26 @@ pub fn profile_names() -> Vec<&'static str> {
 
 /// `None` if there is no such profile.
 pub fn generate(seed: u64, count: usize, profile: &str) -> Option<Vec<u8>> {
-    let choices = choices(profile);
-    let mut generator = Generator::new(seed, *choices.first()?);
+    let profiles = profiles(profile);
+    let mut generator = Generator::new(seed, *profiles.first()?);
     generator.open();
-    generator.act_until(count, &choices);
+    generator.act_until(count, &profiles);
     Some(join(&generator.lines))
 }
 
 /// Lines that go on from a schedule. `None` if there is no such profile.
 pub fn go_on(seed: u64, count: usize, profile: &str, schedule: &Fast) -> Option<Vec<u8>> {
-    let choices = choices(profile);
-    let mut generator = Generator::new(seed, *choices.first()?);
+    let profiles = profiles(profile);
+    let mut generator = Generator::new(seed, *profiles.first()?);
     generator.schedule = schedule.clone();
-    generator.act_until(count, &choices);
+    generator.act_until(count, &profiles);
     Some(join(&generator.lines))
 }
 
-fn choices(profile: &str) -> Vec<Profile> {
+fn profiles(name: &str) -> Vec<Profile> {
     PROFILES
         .into_iter()
-        .filter(|p| p.name == profile || profile == MIXED && p.name != "far")
+        .filter(|p| p.name == name || name == MIXED && p.name != "far")
         .collect()
 }
 
@@ -230,13 +265,16 @@ pub fn join(lines: &[Vec<u8>]) -> Vec<u8> {
 
 /// Lines that a schedule refuses or that change nothing, for lists made elsewhere.
 pub fn idle_line(dice: &mut Dice, schedule: &Fast) -> Vec<u8> {
-    const IDLE: [Action; 9] = [
+    const IDLE: [Action; 12] = [
         Generator::deliver_again,
         Generator::deliver_again,
         Generator::deliver_changed,
         Generator::deliver_spoiled,
         Generator::cancel_unknown,
         Generator::cancel_again,
+        Generator::choose_again,
+        Generator::choose_again,
+        Generator::choose_unknown,
         Generator::spoil_clock,
         Generator::program,
         Generator::damage,
@@ -272,10 +310,10 @@ impl Generator {
     }
 
     /// Just `count` lines.
-    fn act_until(&mut self, count: usize, choices: &[Profile]) {
+    fn act_until(&mut self, count: usize, profiles: &[Profile]) {
         while self.lines.len() < count {
             if self.dice.chance(1, 40) {
-                self.profile = self.dice.pick(choices);
+                self.profile = self.dice.pick(profiles);
             }
             self.act();
         }
@@ -570,32 +608,96 @@ impl Generator {
         }
     }
 
-    /// Around the start, at the last second, or at the end, where the id is gone.
     fn cancel_at_moment(&mut self) {
-        let Some(entry) = self.any_held() else {
+        let Some(entry) = self.held_at_moment() else {
             return self.cancel_unknown();
         };
-        let start = entry.effective_start;
-        let end = entry.event.effective_end();
-        let moments = [start.saturating_sub(1), start, start + 1, end - 1, end];
-        let moment = self.dice.pick(&moments);
-        self.clock_at_least(moment);
         self.put(Frame::Cancel(entry.event.id));
         if self.dice.chance(1, 4) {
             self.put(Frame::Cancel(entry.event.id));
         }
         if self.dice.chance(1, 2) {
-            let control = entry.event.controls.trailing_zeros() as u8;
-            self.put(Frame::Ask(control));
+            self.ask_about(&entry);
         }
     }
 
     fn cancel_unknown(&mut self) {
-        let id = match self.dice.chance(1, 2) {
+        let id = self.unknown_id();
+        self.put(Frame::Cancel(id));
+    }
+
+    /// An event with the clock around its start, in its last seconds, or at its end, where the id
+    /// is gone.
+    fn held_at_moment(&mut self) -> Option<Entry> {
+        let entry = self.any_held()?;
+        let (start, end) = (entry.effective_start, entry.event.effective_end());
+        let around_start = [-2, -1, 0, 1].map(|seconds| (start, seconds));
+        let before_end = [-2, -1, 0].map(|seconds| (end, seconds));
+        let moments = [&around_start[..], &before_end].concat();
+        let (edge, seconds) = self.dice.pick(&moments);
+        self.clock_at_least(edge.saturating_add_signed(seconds));
+        Some(entry)
+    }
+
+    fn unknown_id(&mut self) -> u64 {
+        match self.dice.chance(1, 2) {
             true => self.dice.roll(),
             false => self.free_id(),
+        }
+    }
+
+    // Choices.
+
+    /// Often back again some seconds later.
+    fn choose_now(&mut self) {
+        let Some(entry) = self.any_held() else {
+            return self.choose_unknown();
         };
-        self.put(Frame::Cancel(id));
+        self.choose(&entry);
+        if self.dice.chance(1, 2) {
+            self.step();
+            let before = entry.participation.choice;
+            self.put(Frame::Choice(entry.event.id, before));
+        }
+    }
+
+    /// Mostly the choice that is not the present one.
+    fn choose(&mut self, entry: &Entry) {
+        let present = entry.participation.choice;
+        let choice = match self.dice.chance(3, 4) {
+            true => present.other(),
+            false => present,
+        };
+        self.put(Frame::Choice(entry.event.id, choice));
+    }
+
+    /// Sometimes two or three choices at one clock.
+    fn choose_at_moment(&mut self) {
+        let Some(entry) = self.held_at_moment() else {
+            return self.choose_unknown();
+        };
+        let id = entry.event.id;
+        self.choose(&entry);
+        for _ in 0..self.dice.pick(&[0, 0, 0, 1, 2]) {
+            let choice = self.dice.pick(&[Choice::In, Choice::Out]);
+            self.put(Frame::Choice(id, choice));
+        }
+        if self.dice.chance(1, 2) {
+            self.ask_about(&entry);
+        }
+    }
+
+    fn choose_again(&mut self) {
+        if let Some(entry) = self.any_held() {
+            let present = entry.participation.choice;
+            self.put(Frame::Choice(entry.event.id, present));
+        }
+    }
+
+    fn choose_unknown(&mut self) {
+        let id = self.unknown_id();
+        let choice = self.dice.pick(&[Choice::In, Choice::Out]);
+        self.put(Frame::Choice(id, choice));
     }
 
     // The clock.
@@ -678,6 +780,12 @@ impl Generator {
         self.put(Frame::Ask(control));
     }
 
+    /// A question for the first control that the event carries.
+    fn ask_about(&mut self, entry: &Entry) {
+        let control = entry.event.controls.trailing_zeros() as u8;
+        self.put(Frame::Ask(control));
+    }
+
     fn damage(&mut self) {
         let mut line = self.sound_line();
         self.hurt(&mut line);
@@ -694,6 +802,8 @@ impl Generator {
             Frame::Clock(clock),
             Frame::Program(event.program, program),
             Frame::Ask(self.dice.below(32) as u8),
+            Frame::Choice(event.id, Choice::Out),
+            Frame::Choice(event.id, Choice::In),
         ];
         encode(&self.dice.pick(&frames))
     }
@@ -709,8 +819,8 @@ impl Generator {
             4 => line.truncate(line.len() - 2),
             5 => line.push(b'\r'),
             6..=8 => line[at] = self.dice.pick(foreign),
-            9 => line[..2].copy_from_slice(self.dice.pick(&[b"00", b"06", b"07", b"FF"])),
-            10 => line[..2].copy_from_slice(self.dice.pick(&[b"01", b"02", b"04", b"05"])),
+            9 => line[..2].copy_from_slice(self.dice.pick(&[b"00", b"08", b"09", b"FF"])),
+            10 => line[..2].copy_from_slice(self.dice.pick(&[b"01", b"02", b"05", b"06", b"07"])),
             11 => line.clear(),
             _ => *line = self.noise(),
         }

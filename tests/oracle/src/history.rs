@@ -1,6 +1,9 @@
 //! The scheduler that works every answer out from the history, by intervals.
 
+use std::ops::Range;
+
 use crate::calls::{Answer, Calls, Row, ROW_BYTES};
+use crate::choice::{seconds_out, Choice, Made, Participation};
 use crate::event::{
     check_clock, check_program, default_program, Event, Program, Programs, Rank, CONTROLS,
     MOST_EVENTS,
@@ -17,7 +20,22 @@ enum Origin {
         clock: u64,
         effective_start: u64,
         held: u32,
+        participation: Participation,
     },
+}
+
+impl Origin {
+    /// The choice that the event came in with.
+    fn opening(&self) -> Made {
+        match *self {
+            Origin::Received { receipt } => (receipt, Choice::In),
+            Origin::Loaded {
+                clock,
+                participation,
+                ..
+            } => (clock, participation.choice),
+        }
+    }
 }
 
 /// An event of the history, with its cancellation if there is one.
@@ -27,6 +45,9 @@ struct Past {
     rank: Rank,
     origin: Origin,
     cancelled_at: Option<u64>,
+    /// The choices that were no repeats, in their sequence. The first is the one that the event
+    /// came in with, so there always is one.
+    choices: Vec<Made>,
 }
 
 impl Past {
@@ -47,6 +68,7 @@ impl Past {
                 clock,
                 effective_start,
                 held,
+                ..
             } if effective_start <= clock => (clock, held),
             _ => (self.effective_start(), self.event.controls),
         }
@@ -68,17 +90,58 @@ impl Past {
             .then_some(Row { time, id, code })
     }
 
+    /// The choice that stood after the calls at the clock.
+    fn choice_at(&self, clock: u64) -> Choice {
+        let made = self.choices.partition_point(|&(at, _)| at <= clock);
+        self.choices[made - 1].1
+    }
+
+    /// The seconds in which the event holds something. All its spans begin together. What came
+    /// before an image is left to the image.
+    fn seconds_held(&self, spans: &[Span]) -> Range<u64> {
+        let begin = spans.iter().map(|span| span.begin).min().unwrap_or(0);
+        let end = spans.iter().map(|span| span.end).max().unwrap_or(0);
+        begin.max(self.origin.opening().0 + 1)..end
+    }
+
+    /// What the choices at clocks up to this one make of the held seconds up to it.
+    fn participation(&self, spans: &[Span], clock: u64) -> Participation {
+        let held = self.seconds_held(spans);
+        let passed = held.start..held.end.min(clock + 1);
+        let outs = seconds_out(&self.choices);
+        let out = outs.map(|out| shared(&passed, &out)).sum();
+        let before = match self.origin {
+            Origin::Received { .. } => Participation::default(),
+            Origin::Loaded { participation, .. } => participation,
+        };
+        Participation {
+            choice: self.choice_at(clock),
+            was_in: before.was_in || length(&passed) > out,
+            was_out: before.was_out || out > 0,
+        }
+    }
+
     /// All rows that the event ever gives: at its start, and when it stops holding.
     fn rows(&self, spans: &[Span]) -> [Option<Row>; 2] {
         let last_held = spans.iter().map(|span| span.end).max();
         let at_start = if last_held.is_some() { 2 } else { 7 };
         let end = self.event.effective_end();
-        let at_last = |time| self.row(time, if time == end { 3 } else { 7 });
+        let at_end = || self.participation(spans, end - 1).end_code();
+        let at_last = |time| self.row(time, if time == end { at_end() } else { 7 });
         [
             self.row(self.effective_start(), at_start),
             last_held.and_then(at_last),
         ]
     }
+}
+
+fn length(seconds: &Range<u64>) -> u64 {
+    seconds.end.saturating_sub(seconds.start)
+}
+
+/// How many seconds lie in both.
+fn shared(one: &Range<u64>, other: &Range<u64>) -> u64 {
+    length(&(one.start.max(other.start)..one.end.min(other.end)))
 }
 
 /// An event holds the control from `begin` on and no more at `end`.
@@ -181,6 +244,7 @@ impl Scheduler {
             clock: self.clock,
             effective_start: entry.effective_start,
             held: entry.held,
+            participation: entry.participation,
         };
         self.held.push((entry.event.id, self.history.len()));
         self.remember(&entry.event, origin);
@@ -206,6 +270,7 @@ impl Scheduler {
             rank: event.rank(primacy),
             origin,
             cancelled_at: None,
+            choices: vec![origin.opening()],
         });
         self.spans = None;
     }
@@ -248,12 +313,14 @@ impl Scheduler {
 
     fn entry(&mut self, index: usize) -> Entry {
         let held = self.mask_now(index);
+        let spans = self.spans_of(index).to_vec();
         let past = &self.history[index];
         Entry {
             event: past.event,
             effective_start: past.effective_start(),
             held,
             cancelled: past.cancelled_at.is_some(),
+            participation: past.participation(&spans, self.clock),
         }
     }
 
@@ -337,6 +404,16 @@ impl Calls for Scheduler {
         Ok(6)
     }
 
+    fn choose(&mut self, id: u64, choice: Choice) -> Result<u8, u8> {
+        let at = self.find(id).map_err(|_| 11)?;
+        let past = &mut self.history[self.held[at].1];
+        if past.choice_at(self.clock) == choice {
+            return Ok(0);
+        }
+        past.choices.push((self.clock, choice));
+        Ok(choice.code())
+    }
+
     fn set_clock(&mut self, reading: u64, room: usize) -> Result<&[Row], u8> {
         check_clock(self.clock, reading)?;
         let rows = self.rows_until(reading);
@@ -353,7 +430,8 @@ impl Calls for Scheduler {
             return Err(14);
         }
         for (id, index) in self.held.clone() {
-            if self.mask_now(index) >> control & 1 == 1 {
+            let is_in = self.history[index].choice_at(self.clock) == Choice::In;
+            if is_in && self.mask_now(index) >> control & 1 == 1 {
                 return Ok(Answer::Event(id));
             }
         }

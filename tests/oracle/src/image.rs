@@ -1,10 +1,11 @@
-//! The image of 2,265 bytes, its rules, and the record that a listing gives.
+//! The image of 2,313 bytes, its rules, and the record that a listing gives.
 
+use crate::choice::Participation;
 use crate::event::{is_usable, Event, Program, Programs, LAST_CLOCK, MOST_EVENTS};
 use crate::frame::{part, read_event, write_event, EVENT_FIELDS};
 
-pub const IMAGE_BYTES: usize = 2_265;
-pub const ENTRY_BYTES: usize = 46;
+pub const IMAGE_BYTES: usize = 2_313;
+pub const ENTRY_BYTES: usize = 47;
 /// A listed record over C: an image entry, then the earliest start.
 pub const RECORD_BYTES: usize = ENTRY_BYTES + 8;
 const PROGRAM_BYTES: usize = 6;
@@ -18,6 +19,7 @@ pub struct Entry {
     pub effective_start: u64,
     pub held: u32,
     pub cancelled: bool,
+    pub participation: Participation,
 }
 
 /// A held event as it is listed.
@@ -80,7 +82,7 @@ fn read_entries(bytes: &[u8]) -> Option<Vec<Entry>> {
 }
 
 fn read_entry(entry: &[u8]) -> Option<Entry> {
-    let cancelled = match entry[ENTRY_BYTES - 1] {
+    let cancelled = match entry[ENTRY_BYTES - 2] {
         0 => false,
         1 => true,
         _ => return None,
@@ -90,6 +92,7 @@ fn read_entry(entry: &[u8]) -> Option<Entry> {
         effective_start: u64::from_be_bytes(part(entry, EVENT_FIELDS)),
         held: u32::from_be_bytes(part(entry, EVENT_FIELDS + 8)),
         cancelled,
+        participation: Participation::from_byte(entry[ENTRY_BYTES - 1])?,
     })
 }
 
@@ -105,6 +108,7 @@ fn fits(entry: &Entry, image: &Image) -> bool {
     entry.event.check_fields(&image.programs).is_ok()
         && period_fits(entry, image.clock)
         && mask_fits(entry, image.clock)
+        && participation_fits(entry, image.clock)
 }
 
 fn period_fits(entry: &Entry, clock: u64) -> bool {
@@ -117,6 +121,20 @@ fn mask_fits(entry: &Entry, clock: u64) -> bool {
     let may_hold = clock >= entry.effective_start && !entry.cancelled;
     let allowed = if may_hold { entry.event.controls } else { 0 };
     entry.held & !allowed == 0
+}
+
+/// Nobody was in or out before the start. Of an event that holds something the present second is
+/// one that counts.
+fn participation_fits(entry: &Entry, clock: u64) -> bool {
+    let Participation {
+        was_in, was_out, ..
+    } = entry.participation;
+    let counted = was_in || was_out;
+    if clock < entry.effective_start {
+        !counted
+    } else {
+        counted || entry.held == 0
+    }
 }
 
 fn masks_are_apart(entries: &[Entry]) -> bool {
@@ -165,6 +183,7 @@ impl Entry {
         bytes.extend_from_slice(&self.effective_start.to_be_bytes());
         bytes.extend_from_slice(&self.held.to_be_bytes());
         bytes.push(self.cancelled.into());
+        bytes.push(self.participation.byte());
         bytes
     }
 }

@@ -1,22 +1,26 @@
 //! Pairs of lists that meet the premise of demand 3: the same programs, events, cancellations at
-//! the same clocks and last reading, and everything else different.
+//! the same clocks, choices for each event in the same sequence at the same clocks, and last
+//! reading, and everything else different.
 
 use std::collections::{BTreeMap, BTreeSet};
 
 use crate::calls::Calls;
+use crate::choice::Choice;
 use crate::event::{Event, Program};
 use crate::fast::Fast;
 use crate::frame::{encode, Frame};
 use crate::generate::{idle_line, join};
 use crate::random::Dice;
 
-/// An event with the clocks between which it may be received and the one at which it is cancelled.
+/// An event with the clocks between which it may be received, the one at which it is cancelled and
+/// those at which the user opts out, in again, out and so on. Repeats come in by idle lines.
 #[derive(Clone, Debug)]
 struct Planned {
     event: Event,
     earliest: u64,
     latest: u64,
     cancelled_at: Option<u64>,
+    chosen_at: Vec<u64>,
 }
 
 #[derive(Clone, Debug)]
@@ -93,11 +97,14 @@ fn draw_planned(dice: &mut Dice, id: u64, program: u8, earliest: u64, span: u64)
     let raw_end = u64::from(event.start) + u64::from(event.duration);
     let before_start = event.drawn_start().min(raw_end) - 1;
     let cancelled_at = draw_cancellation(dice, &event, earliest);
+    let chosen_at = draw_choices(dice, &event, earliest);
+    let named = cancelled_at.into_iter().chain(chosen_at.first().copied());
     Planned {
         event,
         earliest,
-        latest: cancelled_at.map_or(before_start, |clock| clock.min(before_start)),
+        latest: named.fold(before_start, u64::min),
         cancelled_at,
+        chosen_at,
     }
 }
 
@@ -105,12 +112,34 @@ fn draw_cancellation(dice: &mut Dice, event: &Event, earliest: u64) -> Option<u6
     if dice.chance(2, 3) {
         return None;
     }
-    let start = event.drawn_start();
-    let end = event.effective_end();
-    let length = end - start;
-    let inside = start + dice.below(length);
-    let moments = [start - 1, start, inside, end - 1, earliest];
-    Some(dice.pick(&moments).max(earliest))
+    Some(draw_moment(dice, event, earliest))
+}
+
+/// Several may be made at one clock.
+fn draw_choices(dice: &mut Dice, event: &Event, earliest: u64) -> Vec<u64> {
+    let count = dice.pick(&[0, 0, 1, 1, 2, 3, 6]);
+    let mut clocks: Vec<u64> = (0..count)
+        .map(|_| draw_moment(dice, event, earliest))
+        .collect();
+    clocks.sort_unstable();
+    clocks
+}
+
+/// A clock at which the event can be held, mostly next to its start or its end.
+fn draw_moment(dice: &mut Dice, event: &Event, earliest: u64) -> u64 {
+    let (start, end) = (event.drawn_start(), event.effective_end());
+    let inside = start + dice.below(end - start);
+    let moments = [
+        start - 2,
+        start - 1,
+        start,
+        start + 1,
+        inside,
+        end - 2,
+        end - 1,
+        earliest,
+    ];
+    dice.pick(&moments).clamp(earliest, end - 1)
 }
 
 /// Chooses the last reading and leaves out what comes after it.
@@ -123,6 +152,7 @@ fn cut(dice: &mut Dice, programs: Vec<(u8, Program)>, mut events: Vec<Planned>) 
     for planned in &mut events {
         planned.latest = planned.latest.min(last);
         planned.cancelled_at = planned.cancelled_at.filter(|&clock| clock <= last);
+        planned.chosen_at.retain(|&clock| clock <= last);
     }
     Scenario {
         programs,
@@ -136,6 +166,16 @@ fn cut(dice: &mut Dice, programs: Vec<(u8, Program)>, mut events: Vec<Planned>) 
 struct Task {
     clock: u64,
     frame: Frame,
+}
+
+impl Task {
+    fn delivers(&self, id: u64) -> bool {
+        matches!(self.frame, Frame::Event(event) if event.id == id)
+    }
+
+    fn chooses(&self, id: u64) -> bool {
+        matches!(self.frame, Frame::Choice(of, _) if of == id)
+    }
 }
 
 /// A list of lines for the scenario. `None` if a call that counts was refused, as when more than 48
@@ -166,6 +206,11 @@ fn draw_tasks(scenario: &Scenario, dice: &mut Dice) -> Vec<Task> {
         tasks.push(Task { clock, frame });
         let frame = Frame::Cancel(planned.event.id);
         tasks.extend(planned.cancelled_at.map(|clock| Task { clock, frame }));
+        let choices = [Choice::Out, Choice::In].into_iter().cycle();
+        for (&clock, choice) in planned.chosen_at.iter().zip(choices) {
+            let frame = Frame::Choice(planned.event.id, choice);
+            tasks.push(Task { clock, frame });
+        }
     }
     for &(number, program) in &scenario.programs {
         let latest = needed.get(&number).copied().unwrap_or(scenario.last);
@@ -243,25 +288,27 @@ impl List {
         self.idle(dice);
         while !tasks.is_empty() {
             let ready: Vec<usize> = (0..tasks.len())
-                .filter(|&at| self.is_ready(&tasks[at].frame, &tasks))
+                .filter(|&at| self.is_ready(at, &tasks))
                 .collect();
             if ready.is_empty() {
                 return None;
             }
-            let task = tasks.swap_remove(dice.pick(&ready));
+            let task = tasks.remove(dice.pick(&ready));
             self.put_counting(&task.frame)?;
             self.idle(dice);
         }
         Some(())
     }
 
-    /// A program comes before its events, and an event before its cancellation.
-    fn is_ready(&self, frame: &Frame, tasks: &[Task]) -> bool {
-        match frame {
+    /// A program comes before its events, an event before its cancellation and its choices, and
+    /// of these one after the other.
+    fn is_ready(&self, at: usize, tasks: &[Task]) -> bool {
+        let is_here = |id| !tasks.iter().any(|task| task.delivers(id));
+        let is_next = |id| !tasks[..at].iter().any(|task| task.chooses(id));
+        match tasks[at].frame {
             Frame::Event(event) => self.schedule.programs()[usize::from(event.program)].is_some(),
-            Frame::Cancel(id) => !tasks
-                .iter()
-                .any(|task| matches!(task.frame, Frame::Event(event) if event.id == *id)),
+            Frame::Cancel(id) => is_here(id),
+            Frame::Choice(id, _) => is_here(id) && is_next(id),
             _ => true,
         }
     }

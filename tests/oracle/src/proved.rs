@@ -1,6 +1,7 @@
 //! The proved part through its C face, as `include/hadulmir.h` declares it. The archive that it is
 //! linked from is named at build time, see `build.rs`.
 
+use crate::choice::Choice;
 use crate::event::{Event, Program};
 
 extern "C" {
@@ -30,6 +31,10 @@ extern "C" {
     ) -> i32;
 
     fn hadulmir_cancel(image: *mut u8, image_len: usize, id: u64) -> i32;
+
+    fn hadulmir_opt_out(image: *mut u8, image_len: usize, id: u64) -> i32;
+
+    fn hadulmir_opt_in(image: *mut u8, image_len: usize, id: u64) -> i32;
 
     fn hadulmir_set_clock(
         image: *mut u8,
@@ -86,6 +91,13 @@ pub fn cancel(image: &mut [u8], id: u64) -> i32 {
     unsafe { hadulmir_cancel(image.as_mut_ptr(), image.len(), id) }
 }
 
+pub fn choose(image: &mut [u8], id: u64, choice: Choice) -> i32 {
+    match choice {
+        Choice::Out => unsafe { hadulmir_opt_out(image.as_mut_ptr(), image.len(), id) },
+        Choice::In => unsafe { hadulmir_opt_in(image.as_mut_ptr(), image.len(), id) },
+    }
+}
+
 pub fn set_clock(image: &mut [u8], reading: u64, rows: &mut [u8]) -> i32 {
     unsafe {
         hadulmir_set_clock(
@@ -121,12 +133,13 @@ pub fn list(image: &mut [u8], records: &mut [u8]) -> i32 {
     }
 }
 
-/// One of the six calls. The last number of those that are lent a buffer is its length in bytes.
+/// One of the calls. The last number of those that are lent a buffer is its length in bytes.
 #[derive(Clone, Copy, Debug)]
 pub enum Call {
     Program(u8, Program),
     Deliver(Event),
     Cancel(u64),
+    Choice(u64, Choice),
     Clock(u64, usize),
     Ask(u8, usize),
     List(usize),
@@ -138,6 +151,8 @@ impl Call {
             Call::Program(..) => "add_program",
             Call::Deliver(_) => "deliver",
             Call::Cancel(_) => "cancel",
+            Call::Choice(_, Choice::Out) => "opt_out",
+            Call::Choice(_, Choice::In) => "opt_in",
             Call::Clock(..) => "set_clock",
             Call::Ask(..) => "ask",
             Call::List(_) => "list",
@@ -157,6 +172,7 @@ impl Call {
             Call::Program(number, program) => add_program(image, number, &program),
             Call::Deliver(event) => deliver(image, &event),
             Call::Cancel(id) => cancel(image, id),
+            Call::Choice(id, choice) => choose(image, id, choice),
             Call::Clock(reading, _) => set_clock(image, reading, lent),
             Call::Ask(control, _) => ask(image, control, lent),
             Call::List(_) => list(image, lent),

@@ -3,6 +3,7 @@
 
 use std::collections::BTreeSet;
 
+use crate::choice::{Choice, Participation};
 use crate::event::{Event, Program, Programs, LAST_CLOCK};
 use crate::image::{Entry, Image};
 use crate::random::Dice;
@@ -71,8 +72,9 @@ pub(crate) fn random_state(
     free: &mut u32,
 ) -> Option<Entry> {
     let cancelled = dice.chance(1, 5);
+    let started = effective_start <= clock;
     let mut held = 0;
-    if effective_start <= clock && !cancelled {
+    if started && !cancelled {
         held = event.controls & *free & dice.pick(&[0, 1, 3, 6, u32::MAX]);
         *free &= !held;
     }
@@ -81,7 +83,23 @@ pub(crate) fn random_state(
         effective_start,
         held,
         cancelled,
+        participation: random_participation(dice, started, held),
     })
+}
+
+/// The present choice is free. Who holds something was in or out before.
+fn random_participation(dice: &mut Dice, started: bool, held: u32) -> Participation {
+    let both = [false, true];
+    let (was_in, was_out) = match (started, held) {
+        (false, _) => (false, false),
+        (true, 0) => (dice.pick(&both), dice.pick(&both)),
+        (true, _) => dice.pick(&[(true, false), (false, true), (true, true)]),
+    };
+    Participation {
+        choice: dice.pick(&[Choice::In, Choice::Out]),
+        was_in,
+        was_out,
+    }
 }
 
 fn random_event(dice: &mut Dice, id: u64, clock: i64) -> Event {

@@ -5,6 +5,7 @@ use std::collections::HashMap;
 use std::ops::Range;
 
 use crate::calls::{lines_of, Calls, Row, AMPLE};
+use crate::choice::{seconds_out, Choice, Made};
 use crate::event::{check_clock, default_program, Event, Program, Programs, CONTROLS, MOST_EVENTS};
 use crate::frame::{decode, Frame};
 use crate::history::Scheduler;
@@ -49,12 +50,13 @@ pub struct Known {
     pub label: String,
     start: u64,
     cancelled: Option<u64>,
+    choices: Vec<Made>,
     held: [Option<Range<u64>>; CONTROLS],
     /// Time and controls of its row 7.
     superseded: Option<(u64, u32)>,
 }
 
-/// A response row or a cancellation, and the controls next to which it is drawn.
+/// A response row, a cancellation or a choice, and the controls next to which it is drawn.
 pub struct Mark {
     pub time: u64,
     pub code: u8,
@@ -102,6 +104,7 @@ impl<'a> Story<'a> {
             Some(Frame::Cancel(id)) => self.cancel(id),
             Some(Frame::Clock(reading)) => self.read_clock(reading),
             Some(Frame::Program(number, program)) => self.add_program(number, program),
+            Some(Frame::Choice(id, choice)) => self.choose(id, choice),
             Some(Frame::Ask(_)) | None => {}
         }
     }
@@ -133,6 +136,7 @@ impl<'a> Story<'a> {
             label: name.unwrap_or(id),
             start: event.effective_start(self.scheduler.clock()),
             cancelled: None,
+            choices: Vec::new(),
             held: Default::default(),
             superseded: None,
         });
@@ -151,20 +155,36 @@ impl<'a> Story<'a> {
             return;
         }
         let time = self.scheduler.clock();
-        let who = self.latest[&id];
-        let known = &mut self.known[who];
+        let known = self.mark_call(id, 6, mask);
         known.cancelled = Some(time);
         known.change(time + 1, mask, 0);
+    }
+
+    /// A repeat of the present choice leaves nothing in the picture either.
+    fn choose(&mut self, id: u64, choice: Choice) {
+        if self.scheduler.choose(id, choice) != Ok(choice.code()) {
+            return;
+        }
+        let (time, mask) = (self.scheduler.clock(), mask_of(&self.entries(), id));
+        let known = self.mark_call(id, choice.code(), mask);
+        known.choices.push((time, choice));
+    }
+
+    /// What a call answers goes to the controls that the event holds, or to all that it carries.
+    fn mark_call(&mut self, id: u64, code: u8, mask: u32) -> &mut Known {
+        let who = self.latest[&id];
+        let known = &mut self.known[who];
+        let controls = match mask {
+            0 => known.event.controls,
+            _ => mask,
+        };
         self.marks.push(Mark {
-            time,
-            code: 6,
+            time: self.scheduler.clock(),
+            code,
             who,
-            controls: if mask == 0 {
-                known.event.controls
-            } else {
-                mask
-            },
+            controls,
         });
+        known
     }
 
     fn read_clock(&mut self, reading: u64) {
@@ -265,6 +285,15 @@ impl Known {
     pub fn with(&self, control: usize, limit: u64) -> Option<Range<u64>> {
         let held = self.held[control].as_ref()?;
         Some(held.start..held.end.min(limit))
+    }
+
+    /// Those of them in which the user is out.
+    pub fn out(&self, control: usize, limit: u64) -> Vec<Range<u64>> {
+        let held = self.with(control, limit).unwrap_or_default();
+        let outs = seconds_out(&self.choices);
+        outs.map(|out| out.start.max(held.start)..out.end.min(held.end))
+            .filter(|out| !out.is_empty())
+            .collect()
     }
 
     /// The moments before the limit in which the event goes on without the control, though it

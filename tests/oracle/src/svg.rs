@@ -89,6 +89,16 @@ pub fn patterns() -> String {
     (0u8..).zip(&PROGRAMS).map(pattern).collect()
 }
 
+/// Laid over a bar where the user is out.
+pub const OUT_PAINT: &str = "fill=\"url(#out)\"";
+
+/// Closer lines than those of the programs, in black.
+pub const OUT_PATTERN: &str = "\
+     <pattern id=\"out\" width=\"5\" height=\"5\" patternUnits=\"userSpaceOnUse\">\
+     <rect width=\"5\" height=\"5\" fill=\"#fff\" fill-opacity=\".65\"/>\
+     <path d=\"M-1,4L1,6M0,0L5,5M4,-1L6,1\" stroke=\"#111\" stroke-width=\"1\" fill=\"none\"/>\
+     </pattern>\n";
+
 pub fn bar_paint(program: u8) -> String {
     let rim = colour(program, 1.0);
     format!("fill=\"url(#p{program})\" stroke=\"{rim}\" stroke-width=\"1.5\"")
@@ -102,13 +112,16 @@ pub fn default_paint(program: u8) -> String {
 pub fn sign(code: u8, x: f64, y: f64) -> String {
     let (path, fill, class) = match code {
         2 => ("m-7,0a7,7 0 1 0 14,0a7,7 0 1 0 -14,0z", "#fff", "d c"),
-        3 => ("m-6.5,-6.5h13v13h-13z", "#fff", "d c"),
+        3 | 8 | 9 => ("m-6.5,-6.5h13v13h-13z", "#fff", "d c"),
+        4 => ("m-6.5,-6.5h13v8l-6.5,6.5l-6.5,-6.5z", "#fff", "d c"),
+        5 => ("m-6.5,6.5h13v-8l-6.5,-6.5l-6.5,6.5z", "#fff", "d c"),
         6 => (
             "m-3,-7.5h6l4.5,4.5v6l-4.5,4.5h-6l-4.5,-4.5v-6z",
             "#a00",
             "d c w",
         ),
         7 => ("m-9,0l9,-9l9,9l-9,9z", "#111", "d c w"),
+        10 => ("m-8.5,-6.5h17v13h-17z", "#fff", "d c"),
         _ => return String::new(),
     };
     let digit = text(x, y + 3.6, class, &code.to_string());

@@ -1,6 +1,7 @@
 -- The numbers of the match are those of the definition.
-use borrow.Author.Tests.{ne-eqb}
+use mathlib.Core.Path.{sym}
 use Rattle.frame.specs.Decoded.{sizeOf}
+use Rattle.frame.proofs.ByKind.{no-kind}
 use Rattle.frame.proofs.size_of.Statement.{statement}
 use Rattle.frame.proofs.size_of.Tie as tie
 
@@ -26,10 +27,14 @@ returns-5 c = rw (c .match .keys5)
 
 returns-6 : tie.Need-returns-6
 unfolding sizeOf
-returns-6 c =
-    let k = c .before .args .kind in
-    let r = c .match .rest in
-    simp (ne-eqb k 1 (r .0 .0 .0 .0 .1), ne-eqb k 2 (r .0 .0 .0 .1), ne-eqb k 3 (r .0 .0 .1), ne-eqb k 4 (r .0 .1), ne-eqb k 5 (r .1))
+returns-6 c = rw (c .match .keys6)
+
+returns-7 : tie.Need-returns-7
+unfolding sizeOf
+returns-7 c = rw (c .match .keys7)
+
+returns-8 : tie.Need-returns-8
+returns-8 c = sym (no-kind (c .match .rest) .size)
 
 pub size-of-spec : {M : Type 1} → statement M
-size-of-spec = tie.close (tie.spec returns returns-2 returns-3 returns-4 returns-5 returns-6)
+size-of-spec = tie.close (tie.spec returns returns-2 returns-3 returns-4 returns-5 returns-6 returns-7 returns-8)

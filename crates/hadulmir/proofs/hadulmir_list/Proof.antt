@@ -76,6 +76,11 @@ loop-holds c = (omega arith, refl, refl)
 element-copy-out-of : tie.Need-element-copy-out-of Inv-loop μ-loop
 element-copy-out-of c = omega (arith, rules _ (kept (c .before .before .before .before)) .count)
 
+add-i : tie.Need-add-i Inv-loop μ-loop
+add-i c =
+    let turn = c .before .before .before .before .before .before in
+    omega (arith, turn .loop-test .taken, rules _ (kept (turn .before .before .before)) .count)
+
 loop-again : tie.Need-loop-again Inv-loop μ-loop
 loop-again c =
     let written = c .before .before in
@@ -131,7 +136,7 @@ hadulmir-list-spec =
     element-copy-out-of
     (λ c κs. search needs)
     (λ c κs. search needs)
-    (λ c. search needs)
+    add-i
     (λ c. search needs)
     loop-again
     cast-result

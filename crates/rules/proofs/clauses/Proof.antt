@@ -10,6 +10,7 @@ use Rattle.rules.proofs.RowOrder.{in-order}
 use Rattle.rules.proofs.SoundState.{sound-view}
 use Rattle.rules.proofs.SoundKept.{sound-call}
 use Rattle.rules.proofs.CallLaws.{call-clauses}
+use Rattle.rules.proofs.Choosing.{choice-clauses, choosing-clauses}
 use Rattle.rules.proofs.Defaults.{default-clause}
 use Rattle.rules.proofs.FaceLaws.{answer-clause, face-clauses}
 use Rattle.rules.proofs.Room.{program-clause}
@@ -25,7 +26,9 @@ returns c = record {
   holding = holding-clauses;
   rows = row-clauses;
   moments = record { blocks-nobody = blocks-nobody; silent = code-cancelled; two-rows = two-rows; in-order = in-order; few-rows = few-rows; quiet = λ s e. quiet-second (view s) (sound-view s e) };
+  choices = choice-clauses;
   calls = call-clauses;
+  choosing = choosing-clauses;
   defaults = default-clause;
   answers = answer-clause;
   face = face-clauses;

@@ -25,15 +25,18 @@ looked-up ps p h f = go (leb (h .event .program) lastProgram) refl
 returns : tie.Need-returns
 unfolding soundEntry wellFormed
 returns c ps f =
-    let malformed = c .before .before in
+    let held = c .before in
+    let period = held .before in
+    let malformed = period .before in
     let start = malformed .before .before .before in
     rw (
-      c .is-rightly-held .ensures,
-      c .before .is-in-period .ensures,
+      c .is-rightly-counted .ensures,
+      held .is-rightly-held .ensures,
+      period .is-in-period .ensures,
       malformed .is-malformed .ensures,
       ← looked-up ps (start .args .p) (start .args .h) f,
     )
     (simp and-assoc)
 
 pub is-sound-entry-spec : {M : Type 1} → statement M
-is-sound-entry-spec = tie.close (tie.spec (λ c κs. search needs) (λ c κs. search needs) (λ c κs. search needs) returns)
+is-sound-entry-spec = tie.close (tie.spec (λ c κs. search needs) (λ c κs. search needs) (λ c κs. search needs) (λ c κs. search needs) returns)

@@ -6,7 +6,7 @@ use Rattle.sound.proofs.is_unused.Tie as tie
 
 returns : tie.Need-returns
 unfolding unused
-returns c = let b = c .before .before .before in rw (b .equals .ensures, b .before .none .ensures)
+returns c = let b = c .before .before .before .before .before in rw (b .equals .ensures, b .before .none .ensures)
 
 pub is-unused-spec : {M : Type 1} → statement M
 is-unused-spec = tie.close (tie.spec (λ c κs. search needs) (λ c κs. search needs) returns)

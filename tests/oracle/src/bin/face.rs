@@ -16,7 +16,7 @@ use oracle::proved::Call;
 use oracle::random::Dice;
 use oracle::spread::Spread;
 use oracle::states::random_image;
-use oracle::{decode, Calls, Event, Fast, Frame, Program, Row, Scheduler};
+use oracle::{decode, Calls, Choice, Event, Fast, Frame, Program, Row, Scheduler};
 
 const USAGE: &str = "\
 face [LISTS [FIRST]]   LISTS is the number of lists, 20000 if not given,
@@ -24,9 +24,10 @@ face [LISTS [FIRST]]   LISTS is the number of lists, 20000 if not given,
 
 const LISTS: u64 = 20_000;
 
-/// Where the event entries begin in an image, and the held mask in an entry.
+/// Where the event entries begin in an image, and the held mask and the choice byte in an entry.
 const EVENTS_AT: usize = 57;
 const MASK_AT: usize = 41;
+const CHOICE_AT: usize = ENTRY_BYTES - 1;
 
 fn main() -> ExitCode {
     let arguments: Vec<String> = std::env::args().skip(1).collect();
@@ -234,9 +235,7 @@ fn damage(dice: &mut Dice, sound: &[u8]) -> Vec<u8> {
         bytes.resize(length, 0);
         return bytes;
     }
-    let used = EVENTS_AT + ENTRY_BYTES * usize::from(sound[8]);
-    let among = dice.pick(&[used, used, used, (used + 4).min(IMAGE_BYTES), IMAGE_BYTES]);
-    let at = dice.below(among as u64) as usize;
+    let at = damaged_at(dice, sound[8].into());
     let old = bytes[at];
     let flipped = old ^ 1 << dice.below(8);
     let any = dice.roll() as u8;
@@ -246,6 +245,17 @@ fn damage(dice: &mut Dice, sound: &[u8]) -> Vec<u8> {
         bytes[at] = flipped;
     }
     bytes
+}
+
+/// One place in eight is the choice byte of an entry, used or not.
+fn damaged_at(dice: &mut Dice, count: usize) -> usize {
+    if dice.chance(1, 8) {
+        let entry = dice.below((count + 1).min(MOST_EVENTS) as u64) as usize;
+        return EVENTS_AT + ENTRY_BYTES * entry + CHOICE_AT;
+    }
+    let used = EVENTS_AT + ENTRY_BYTES * count;
+    let among = dice.pick(&[used, used, used, (used + 4).min(IMAGE_BYTES), IMAGE_BYTES]);
+    dice.below(among as u64) as usize
 }
 
 // Demand 3.
@@ -311,6 +321,7 @@ fn conclusion(face: &mut Face, dice: Dice, text: &[u8]) -> Outcome<Conclusion> {
 enum Plant {
     Row,
     Mask,
+    Choice,
     Earliest,
     Answer,
 }
@@ -319,7 +330,7 @@ impl Plant {
     fn fits(self, call: &Call, returned: i32, image: &[u8]) -> bool {
         match self {
             Plant::Row => matches!(call, Call::Clock(..)) && returned > 0,
-            Plant::Mask => returned >= 0 && image[8] > 0,
+            Plant::Mask | Plant::Choice => returned >= 0 && image[8] > 0,
             Plant::Earliest => matches!(call, Call::List(_)) && returned > 0,
             Plant::Answer => returned >= 0,
         }
@@ -329,9 +340,12 @@ impl Plant {
         match self {
             Plant::Row => flip_bit(dice, &mut lent[..*returned as usize * ROW_BYTES]),
             Plant::Mask => {
-                let entry = dice.below(image[8].into()) as usize;
-                let mask = EVENTS_AT + ENTRY_BYTES * entry + MASK_AT;
+                let mask = any_entry(dice, image) + MASK_AT;
                 flip_bit(dice, &mut image[mask..mask + 4]);
+            }
+            Plant::Choice => {
+                let choice = any_entry(dice, image) + CHOICE_AT;
+                flip_bit(dice, &mut image[choice..=choice]);
             }
             Plant::Earliest => {
                 let record = dice.below(*returned as u64) as usize;
@@ -343,12 +357,18 @@ impl Plant {
     }
 }
 
+/// Where a used entry of the image begins.
+fn any_entry(dice: &mut Dice, image: &[u8]) -> usize {
+    EVENTS_AT + ENTRY_BYTES * dice.below(image[8].into()) as usize
+}
+
 /// Of so many places for a fault one gets it.
 const SELDOM: u64 = 1_000;
 
-const PLANTS: [(&str, Plant); 4] = [
+const PLANTS: [(&str, Plant); 5] = [
     ("row", Plant::Row),
     ("mask", Plant::Mask),
+    ("choice", Plant::Choice),
     ("earliest", Plant::Earliest),
     ("answer", Plant::Answer),
 ];
@@ -402,6 +422,8 @@ impl Face {
             "add_program",
             "deliver",
             "cancel",
+            "opt_out",
+            "opt_in",
             "set_clock",
             "ask",
             "list",
@@ -514,6 +536,8 @@ impl<'a, O: Oracle> Run<'a, O> {
             Call::Program(other as u8, program),
             Call::Deliver(event),
             Call::Cancel(id),
+            Call::Choice(id, Choice::Out),
+            Call::Choice(id, Choice::In),
             Call::Ask(small as u8, 8),
         ];
         let call = self.dice.pick(&calls);
@@ -525,6 +549,7 @@ impl<'a, O: Oracle> Run<'a, O> {
             Frame::Program(number, program) => self.make(&Call::Program(number, program)),
             Frame::Event(event) => self.make(&Call::Deliver(event)),
             Frame::Cancel(id) => self.make(&Call::Cancel(id)),
+            Frame::Choice(id, choice) => self.make(&Call::Choice(id, choice)),
             Frame::Clock(reading) => self.set_clock(reading),
             Frame::Ask(control) => self.ask(control),
         }
@@ -602,6 +627,8 @@ impl<'a, O: Oracle> Run<'a, O> {
         self.make(&Call::Program(number, program))?;
         self.make(&Call::Deliver(event))?;
         self.make(&Call::Cancel(event.id))?;
+        self.make(&Call::Choice(event.id, Choice::Out))?;
+        self.make(&Call::Choice(event.id, Choice::In))?;
         let reading = self.dice.pick(&[0, 3_600, 5_000, 9_000_000_000, u64::MAX]);
         self.set_clock(reading)?;
         let control = self.dice.below(40) as u8;

@@ -196,6 +196,32 @@ const OPENED: &str = "4000 11259375 1\n";
 const CLOSING: &str = "030000000000001388\n0500\n030000000000001450\n0502\n";
 const CLOSED: &str = "5000 11259375 2\n0 event 11259375\n2 none\n";
 
+/// After the opening: out twice, in twice and out before the start, then in again at it.
+const CHOICES: &str = "\
+060000000000ABCDEF
+060000000000ABCDEF
+070000000000ABCDEF
+070000000000ABCDEF
+060000000000ABCDEF
+030000000000001388
+0500
+070000000000ABCDEF
+0500
+0300000000000015E0
+060000000000ABCDEF
+";
+const CHOSEN: &str = "\
+4000 11259375 4
+4000 11259375 5
+4000 11259375 4
+5000 11259375 2
+0 default 0
+5000 11259375 5
+0 event 11259375
+5600 11259375 9
+refused 11
+";
+
 /// A question that has one answer whatever came before.
 const TAIL: &str = "051F\n";
 const TAIL_ANSWER: &str = "31 none\n";
@@ -203,19 +229,30 @@ const TAIL_ANSWER: &str = "31 none\n";
 const REFUSED: &str = "refused 1\n";
 
 /// A frame of each kind with a letter among its digits, and the line that it prints after the
-/// opening. The program is there already: had it been new, nothing would show that it was read.
+/// opening. The program is there already, and the id to opt in is not held: else nothing would show
+/// that the line was read.
 struct Sound {
     kind: &'static str,
     line: &'static str,
     printed: &'static str,
 }
 
-const SOUND: [Sound; 5] = [
+const SOUND: [Sound; 7] = [
     EVENT,
     Sound {
         kind: "cancel",
         line: "020000000000ABCDEF",
         printed: "4000 11259375 6\n",
+    },
+    Sound {
+        kind: "opt-out",
+        line: "060000000000ABCDEF",
+        printed: "4000 11259375 4\n",
+    },
+    Sound {
+        kind: "opt-in",
+        line: "070000000000ABCDEE",
+        printed: "refused 11\n",
     },
     Sound {
         kind: "clock",
@@ -269,10 +306,14 @@ fn expect_refusals(tests: &mut Tests, name: &str, lines: &[Vec<u8>]) {
 fn sound_frames(tests: &mut Tests) {
     let (text, expected) = (EXAMPLE.as_bytes(), EXAMPLE_OUTPUT.as_bytes());
     tests.expect("the example of document 01", text, Feed::File, expected);
-    let text = [OPENING, CLOSING].concat();
-    let expected = [OPENED, CLOSED].concat();
-    let (text, expected) = (text.as_bytes(), expected.as_bytes());
-    tests.expect("opening and closing", text, Feed::File, expected);
+    for (name, rest, printed) in [
+        ("opening and closing", CLOSING, CLOSED),
+        ("opting out and in", CHOICES, CHOSEN),
+    ] {
+        let text = [OPENING, rest].concat();
+        let expected = [OPENED, printed].concat();
+        tests.expect(name, text.as_bytes(), Feed::File, expected.as_bytes());
+    }
     for sound in &SOUND {
         let text = [OPENING, sound.line, "\n", TAIL].concat();
         let expected = [OPENED, sound.printed, TAIL_ANSWER].concat();
@@ -362,8 +403,8 @@ fn kinds_and_lengths(tests: &mut Tests) {
     };
     for sound in &SOUND {
         let length = sound.line.len();
-        let ends = [0, 6].map(|kind| with_kind(sound, kind).into_bytes());
-        expect_refusals(tests, &format!("kinds 00 and 06 as {}", sound.kind), &ends);
+        let ends = [0, 8].map(|kind| with_kind(sound, kind).into_bytes());
+        expect_refusals(tests, &format!("kinds 00 and 08 as {}", sound.kind), &ends);
         let lines: Vec<Vec<u8>> = (0..=255)
             .map(|kind| with_kind(sound, kind))
             .filter(|line| !is_known(line))
@@ -601,12 +642,15 @@ fn compare_pair(tests: &Tests, first: &[u8], second: &[u8]) -> Result<(), String
     same(&left, &right).map_err(|e| format!("answers, {e}"))
 }
 
-/// The printed rows. Codes 1 and 6 have the same form but come from deliveries and cancellations.
+/// The printed rows. Codes 1, 4, 5 and 6 have the same form but come from deliveries, choices and
+/// cancellations.
 fn rows_of(out: &[u8]) -> Vec<u8> {
+    const CODES: [&[u8]; 6] = [b"2", b"3", b"7", b"8", b"9", b"10"];
     let is_row = |line: &&[u8]| {
         let words: Vec<&[u8]> = line.split(|&byte| byte == b' ').collect();
         let is_number = |word: &[u8]| !word.is_empty() && word.iter().all(u8::is_ascii_digit);
-        matches!(words[..], [time, id, b"2" | b"3" | b"7"] if is_number(time) && is_number(id))
+        matches!(words[..], [time, id, code]
+            if is_number(time) && is_number(id) && CODES.contains(&code))
     };
     let lines = out.split(|&byte| byte == b'\n');
     let rows: Vec<Vec<u8>> = lines.filter(is_row).map(<[u8]>::to_vec).collect();

@@ -229,7 +229,7 @@ mod calls {
     use oracle::image::RECORD_BYTES;
     use oracle::proved::Call;
     use oracle::random::Dice;
-    use oracle::{Answer, Calls, Event, Fast, Program};
+    use oracle::{Answer, Calls, Choice, Event, Fast, Program};
 
     const TURNS: usize = 500;
     /// So many calls are timed together, each on a copy of the state that was made before.
@@ -253,7 +253,7 @@ mod calls {
         }
     }
 
-    fn cases() -> [(&'static str, Call); 9] {
+    fn cases() -> [(&'static str, Call); 12] {
         let program = Program {
             primacy: 70,
             defaults: 1,
@@ -263,6 +263,8 @@ mod calls {
             ("add_program", Call::Program(7, program)),
             ("deliver, again", Call::Deliver(event(2))),
             ("cancel", Call::Cancel(event(2).id)),
+            ("opt_out", Call::Choice(event(2).id, Choice::Out)),
+            ("opt_in", Call::Choice(event(0).id, Choice::In)),
             ("set_clock, nothing due", Call::Clock(CLOCK + 1, AMPLE)),
             (
                 "set_clock, one start",
@@ -270,13 +272,14 @@ mod calls {
             ),
             ("set_clock, all to their ends", Call::Clock(100_000, AMPLE)),
             ("ask, an event holds", Call::Ask(1, 8)),
+            ("ask, its user is out", Call::Ask(0, 8)),
             ("ask, default", Call::Ask(31, 8)),
             ("list", Call::List(records)),
         ]
     }
 
     /// The even ones have started at the clock, the odd ones come later, each on a control that an
-    /// even one holds. The even ones might have begun sooner.
+    /// even one holds. The even ones might have begun sooner. The user is out of the first.
     fn event(index: usize) -> Event {
         let started = index.is_multiple_of(2);
         let index = index as u32;
@@ -310,6 +313,7 @@ mod calls {
             fast.deliver(&event(index))?;
         }
         fast.set_clock(CLOCK, AMPLE)?;
+        fast.choose(event(0).id, Choice::Out)?;
         Ok(fast)
     }
 
@@ -356,6 +360,7 @@ mod calls {
             Call::Program(number, program) => fast.add_program(number, program).map(|()| 0),
             Call::Deliver(event) => fast.deliver(&event).map(i32::from),
             Call::Cancel(id) => fast.cancel(id).map(i32::from),
+            Call::Choice(id, choice) => fast.choose(id, choice).map(i32::from),
             Call::Clock(reading, room) => fast.set_clock(reading, room).map(|r| r.len() as i32),
             Call::Ask(control, _) => fast.ask(control).map(answer_number),
             Call::List(room) => fast.list(room / RECORD_BYTES).map(|r| r.len() as i32),

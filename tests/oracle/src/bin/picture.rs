@@ -4,10 +4,11 @@ use std::io::{self, Read, Write};
 use std::ops::Range;
 use std::process::ExitCode;
 
+use oracle::calls::is_end;
 use oracle::story::{Known, Mark, Names, Story};
 use oracle::svg::{
     bar_paint, block, default_paint, early, flow, line, patterns, settle, sign, text, wide, Entry,
-    Item, LANE, LEFT, RIGHT, STYLE, WIDTH,
+    Item, LANE, LEFT, OUT_PAINT, OUT_PATTERN, RIGHT, STYLE, WIDTH,
 };
 
 const USAGE: &str = "\
@@ -24,6 +25,21 @@ const GAP: f64 = 12.0;
 /// From this span on the ticks have hours.
 const HOURLY: u64 = 7_200;
 const DAY: u64 = 86_400;
+
+const MEANINGS: [(u8, &str); 4] = [
+    (2, "start"),
+    (3, "end"),
+    (7, "superseded"),
+    (6, "cancelled"),
+];
+/// Explained only where they are drawn.
+const CHOICE_MEANINGS: [(u8, &str); 5] = [
+    (4, "opted out"),
+    (5, "opted in"),
+    (8, "end, partly in, out at last"),
+    (9, "end, partly out, in at last"),
+    (10, "end, never in"),
+];
 
 fn main() -> ExitCode {
     if let Err(message) = run() {
@@ -147,7 +163,8 @@ impl Drawing<'_> {
         let (programs, y) = flow(&self.program_legend(), y + 60.0);
         let (signs, height) = flow(&self.sign_legend(), y);
         let title = text(20.0, 28.0, "title", title);
-        let patterns = patterns();
+        let out = if self.shows_out() { OUT_PATTERN } else { "" };
+        let patterns = patterns() + out;
         format!(
             "<svg xmlns=\"http://www.w3.org/2000/svg\" version=\"1.1\" width=\"{WIDTH}\" \
              height=\"{height}\" viewBox=\"0 0 {WIDTH} {height}\">\n<style>{STYLE}</style>\n\
@@ -168,7 +185,8 @@ impl Drawing<'_> {
         *out += &self.title(control, strip);
         *out += &self.defaults(control, strip..under);
         *out += &block(LEFT..RIGHT, strip..under, frame);
-        out.extend(self.bars(control).iter().map(|bar| self.bar(bar, bars)));
+        let drawn = self.bars(control);
+        out.extend(drawn.iter().map(|bar| self.bar(control, bar, bars)));
         for (items, edge, lane) in [
             (early, bars, -THIN_LANE),
             (above, strip, -LANE),
@@ -210,13 +228,18 @@ impl Drawing<'_> {
         sides.end - sides.start > width + 4.0
     }
 
-    fn bar(&self, (who, span): &Bar, top: f64) -> String {
+    fn bar(&self, control: usize, (who, span): &Bar, top: f64) -> String {
         let known = &self.story.known[*who];
+        let outs = known.out(control, self.story.limit());
         let program = known.event.program;
         let sides = self.sides(span);
         let middle = (sides.start + sides.end) / 2.0;
-        let mut out = format!("<g><title>{}</title>", bar_hint(known, span));
+        let hint = bar_hint(known, span) + &out_hint(&outs);
+        let mut out = format!("<g><title>{hint}</title>");
         out += &block(sides, top..top + BAR, &bar_paint(program));
+        for seconds in outs.iter().filter(|seconds| self.scale.overlaps(seconds)) {
+            out += &block(self.sides(seconds), top..top + BAR, OUT_PAINT);
+        }
         if self.fits(wide(&known.label), span) {
             out += &text(middle, top + 15.5, "c b halo", &known.label);
             out += &text(middle, top + 15.5, "c b", &known.label);
@@ -301,16 +324,16 @@ impl Drawing<'_> {
         items
     }
 
-    /// The marks below a band: ends, cancellations, and who goes on without the control.
+    /// The marks below a band: ends, cancellations, choices, and who goes on without the control.
     fn losses(&self, control: usize) -> Vec<Item<'_>> {
         let (mut items, limit) = (Vec::new(), self.story.limit());
         for mark in self
             .marks(control)
-            .filter(|mark| matches!(mark.code, 3 | 6))
+            .filter(|mark| !matches!(mark.code, 2 | 7))
         {
             let known = &self.story.known[mark.who];
             let bar = known.with(control, limit);
-            let held = mark.code == 3 || bar.is_some_and(|bar| bar.end > mark.time);
+            let held = is_end(mark.code) || bar.is_some_and(|bar| bar.contains(&mark.time));
             let label = if held { "" } else { &known.label };
             items.push(self.item(mark.code, mark.time..mark.time, label, self.row(mark)));
         }
@@ -409,16 +432,23 @@ impl Drawing<'_> {
 
     /// The signs, and the lines that there are.
     fn sign_legend(&self) -> Vec<Entry> {
-        let meanings = [
-            (2, "start"),
-            (3, "end"),
-            (7, "superseded"),
-            (6, "cancelled"),
-        ];
-        let signs = meanings.map(|(code, meaning)| (sign(code, 9.0, 0.0), 18.0, meaning.into()));
+        let drawn = self
+            .story
+            .marks
+            .iter()
+            .filter(|mark| self.scale.shows(mark.time));
+        let drawn: Vec<u8> = drawn.map(|mark| mark.code).collect();
+        let of_choices = CHOICE_MEANINGS.into_iter();
+        let of_choices = of_choices.filter(|(code, _)| drawn.contains(code));
+        let signs = MEANINGS.into_iter().chain(of_choices);
+        let signs = signs.map(|(code, meaning)| (sign(code, 9.0, 0.0), 18.0, meaning.into()));
         let wait = line((0.0, 0.0), (30.0, 0.0), "wait") + &line((30.0, -3.0), (30.0, 3.0), "axis");
         let read = line((4.0, -5.0), (4.0, 5.0), "read");
-        let mut entries = signs.to_vec();
+        let mut entries: Vec<Entry> = signs.collect();
+        if self.shows_out() {
+            let out = block(0.0..30.0, -7.0..7.0, OUT_PAINT);
+            entries.push((out, 30.0, "the user is out".into()));
+        }
         entries.push((wait, 30.0, "its period goes on without the control".into()));
         if self.shows_early() {
             let meaning = "from its earliest start to its start";
@@ -428,6 +458,15 @@ impl Drawing<'_> {
         entries
     }
 
+    fn shows_out(&self) -> bool {
+        let shown = |control| {
+            let known = self.story.known.iter();
+            let mut outs = known.flat_map(|known| known.out(control, self.story.limit()));
+            outs.any(|out| self.scale.overlaps(&out))
+        };
+        self.story.controls().any(shown)
+    }
+
     fn shows_early(&self) -> bool {
         let shown = |control| {
             let mut known = self.story.known.iter();
@@ -435,6 +474,11 @@ impl Drawing<'_> {
         };
         self.story.controls().any(shown)
     }
+}
+
+fn out_hint(outs: &[Range<u64>]) -> String {
+    let hint = |out: &Range<u64>| format!(", out from {} to {}", out.start, out.end);
+    outs.iter().map(hint).collect()
 }
 
 fn bar_hint(known: &Known, span: &Range<u64>) -> String {

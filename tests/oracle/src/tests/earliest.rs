@@ -147,7 +147,7 @@ fn it_stays_after_a_loss() {
     }
 }
 
-/// Over C: the 46 bytes of the image entry, then the time, most significant byte first.
+/// Over C: the 47 bytes of the image entry, then the time, most significant byte first.
 #[test]
 fn a_record_is_the_entry_and_8_bytes() {
     let (mut history, mut fast) = (Scheduler::fresh(), Fast::fresh());
@@ -159,12 +159,12 @@ fn a_record_is_the_entry_and_8_bytes() {
     let record = listed(&mut history, 1);
     assert_eq!(record, listed(&mut fast, 1));
     let bytes = record.bytes();
-    assert_eq!(bytes.len(), 54);
-    assert_eq!(bytes[46..], [0, 0, 0, 0, 0, 0, 0x12, 0x5C]);
-    assert_eq!(bytes[..46], history.to_image()[57..57 + 46]);
-    assert_eq!(bytes[..46], fast.to_image()[57..57 + 46]);
-    assert_eq!((ENTRY_BYTES, RECORD_BYTES), (46, 54));
-    assert_eq!(48 * RECORD_BYTES, 2_592);
+    assert_eq!(bytes.len(), 55);
+    assert_eq!(bytes[47..], [0, 0, 0, 0, 0, 0, 0x12, 0x5C]);
+    assert_eq!(bytes[..47], history.to_image()[57..57 + 47]);
+    assert_eq!(bytes[..47], fast.to_image()[57..57 + 47]);
+    assert_eq!((ENTRY_BYTES, RECORD_BYTES), (47, 55));
+    assert_eq!(48 * RECORD_BYTES, 2_640);
 }
 
 /// The least drawn start over all start draws in range, and not after the effective start.

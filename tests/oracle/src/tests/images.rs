@@ -3,12 +3,12 @@
 use super::naive::Naive;
 use crate::calls::lines_of;
 use crate::event::CONTROLS;
-use crate::generate::generate;
-use crate::image::{self, Image, IMAGE_BYTES};
+use crate::generate::{generate, go_on};
+use crate::image::{self, Image, ENTRY_BYTES, IMAGE_BYTES};
 use crate::random::Dice;
 use crate::spread::Spread;
 use crate::states::random_state;
-use crate::{decode, Calls, Entry, Event, Fast, Frame, Program, Scheduler};
+use crate::{Calls, Choice, Entry, Event, Fast, Participation, Program, Scheduler};
 
 use super::support::{event, program, rows_to};
 
@@ -18,6 +18,19 @@ fn one_program() -> [Option<Program>; 8] {
     programs
 }
 
+/// In for a held second, and in now.
+const IN: Participation = Participation {
+    choice: Choice::In,
+    was_in: true,
+    was_out: false,
+};
+
+/// No second counts yet.
+const NEW: Participation = Participation {
+    was_in: false,
+    ..IN
+};
+
 /// An image at clock 5100 whose only event started at 5000.
 fn base() -> Image {
     let entry = Entry {
@@ -25,6 +38,7 @@ fn base() -> Image {
         effective_start: 5_000,
         held: 1,
         cancelled: false,
+        participation: IN,
     };
     Image {
         clock: 5_100,
@@ -80,7 +94,7 @@ fn head_and_program_rules() {
     assert!(accepts_bytes(|b| b[10] = 191));
     assert!(!accepts_bytes(|b| b[16] = 1));
     assert!(!accepts_bytes(|b| b[20] = 1));
-    assert!(!accepts_bytes(|b| b[2_264] = 1));
+    assert!(!accepts_bytes(|b| b[2_312] = 1));
     assert!(!accepts_bytes(|b| b[57 + 45] = 2));
 }
 
@@ -94,9 +108,15 @@ fn event_rules() {
     assert!(first(|e| e.effective_start = 5_100));
     assert!(!first(|e| e.effective_start = 4_999));
     assert!(!first(|e| e.effective_start = 5_101));
-    assert!(first(|e| (e.effective_start, e.held) = (5_101, 0)));
-    assert!(first(|e| (e.effective_start, e.held) = (5_599, 0)));
-    assert!(!first(|e| (e.effective_start, e.held) = (5_600, 0)));
+    let first_new = |start| {
+        accepts(|image| {
+            let entry = &mut image.entries[0];
+            (entry.effective_start, entry.held, entry.participation) = (start, 0, NEW);
+        })
+    };
+    assert!(first_new(5_101));
+    assert!(first_new(5_599));
+    assert!(!first_new(5_600));
     assert!(first(|e| e.held = 0));
     assert!(!first(|e| e.held = 2));
     assert!(!first(|e| e.cancelled = true));
@@ -117,6 +137,7 @@ fn rules_between_events() {
                 effective_start: 5_050,
                 held,
                 cancelled: false,
+                participation: IN,
             })
         })
     };
@@ -141,6 +162,7 @@ fn displaced_right_after_the_image() {
         effective_start: 5_101,
         held: 0,
         cancelled: false,
+        participation: NEW,
     });
     let bytes = image::write(&image);
     let mut scheduler = Scheduler::from_image(&bytes).expect("an image");
@@ -161,6 +183,7 @@ fn a_started_event_gains_nothing() {
         effective_start: 5_000,
         held: 0,
         cancelled: false,
+        participation: NEW,
     });
     let bytes = image::write(&image);
     let mut scheduler = Scheduler::from_image(&bytes).expect("an image");
@@ -213,16 +236,6 @@ fn random_entry(dice: &mut Dice, id: u64, clock: u64, free: &mut u32) -> Option<
     random_state(dice, event, effective_start, clock, free)
 }
 
-/// Lines of a generated list from near the image's clock on, which fit tight times.
-fn lines_after(seed: u64, clock: u64) -> Vec<Vec<u8>> {
-    let text = generate(seed, 120, "tight").expect("a profile");
-    let wanted = |line: &&[u8]| match decode(line) {
-        Some(Frame::Clock(reading)) => reading >= clock,
-        other => other.is_some(),
-    };
-    lines_of(&text).filter(wanted).map(<[u8]>::to_vec).collect()
-}
-
 #[test]
 fn states_that_no_run_reaches_run_on() {
     let mut dice = Dice::new(41);
@@ -238,8 +251,10 @@ fn states_that_no_run_reaches_run_on() {
         assert_eq!(fast.to_image(), bytes);
         loaded += image.entries.len();
         spread.count_all(&history.list(48).expect("a listing"));
-        for line in lines_after(seed, image.clock) {
-            step_all(&mut history, &mut fast, &mut naive, &line, seed);
+        let profile = dice.pick(&["tight", "choices", "cancel"]);
+        let text = go_on(seed, 120, profile, &fast).expect("a profile");
+        for line in lines_of(&text) {
+            step_all(&mut history, &mut fast, &mut naive, line, seed);
         }
     }
     assert!(loaded > 10_000, "{loaded}");
@@ -289,7 +304,7 @@ fn accepted_images_come_back() {
     for _ in 0..20_000 {
         let image = random_image(&mut dice);
         let mut bytes = image::write(&image);
-        let used = 57 + 46 * image.entries.len() as u64;
+        let used = (57 + ENTRY_BYTES * image.entries.len()) as u64;
         let at = dice.below(used + 4) as usize;
         bytes[at] = dice.pick(&[0, 1, 2, 255, dice.clone().roll() as u8]);
         match Scheduler::from_image(&bytes) {

@@ -78,12 +78,14 @@ refused 11
 
 #[test]
 fn damaged_lines() {
-    let sound: [&[u8]; 5] = [
+    let sound: [&[u8]; 7] = [
         b"0100000000000000010000000001000000640000138800000258000000000000000A",
         b"0200000000000000AB",
         b"03000000000000000A",
         b"040701000000FF",
         b"051F",
+        b"0600000000000000AB",
+        b"0700000000000000AB",
     ];
     for line in sound {
         assert!(decode(line).is_some());
@@ -109,7 +111,7 @@ fn damage_each_way(line: &[u8]) {
     }
     for kind in (0..=255u8).filter(|kind| Some(*kind) != kind_of(line)) {
         let other = [format!("{kind:02X}").as_bytes(), &line[2..]].concat();
-        let same_length = line.len() == 18 && matches!(kind, 2 | 3);
+        let same_length = line.len() == 18 && matches!(kind, 2 | 3 | 6 | 7);
         assert_eq!(decode(&other).is_some(), same_length);
     }
 }

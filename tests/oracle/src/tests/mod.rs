@@ -1,3 +1,4 @@
+mod choices;
 mod compare;
 mod earliest;
 mod images;

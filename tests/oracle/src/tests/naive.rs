@@ -2,7 +2,7 @@
 //! types with the schedulers that it is compared with.
 
 use crate::image::{self, Image};
-use crate::{Answer, Calls, Entry, Event, Program, Record, Row};
+use crate::{Answer, Calls, Choice, Entry, Event, Participation, Program, Record, Row};
 
 #[derive(Clone, Debug)]
 struct Held {
@@ -12,6 +12,9 @@ struct Held {
     end: i64,
     holds: [bool; 32],
     cancelled: bool,
+    is_out: bool,
+    was_in: bool,
+    was_out: bool,
 }
 
 impl Held {
@@ -27,6 +30,28 @@ impl Held {
 
     fn holds_any(&self) -> bool {
         self.holds.contains(&true)
+    }
+
+    /// By the choice of the second before, which nobody has changed since.
+    fn count_second(&mut self) {
+        if self.holds_any() && self.is_out {
+            self.was_out = true;
+        } else if self.holds_any() {
+            self.was_in = true;
+        }
+    }
+
+    fn end_code(&self) -> u8 {
+        if !self.was_out {
+            return 3;
+        }
+        if !self.was_in {
+            return 10;
+        }
+        if self.is_out {
+            return 8;
+        }
+        9
     }
 }
 
@@ -118,6 +143,9 @@ impl Naive {
             end: end(&entry.event),
             holds: std::array::from_fn(|control| entry.held & 1 << control != 0),
             cancelled: entry.cancelled,
+            is_out: entry.participation.choice == Choice::Out,
+            was_in: entry.participation.was_in,
+            was_out: entry.participation.was_out,
         }
     }
 
@@ -137,6 +165,7 @@ impl Naive {
         let before = self.events.clone();
         self.events.retain(|held| held.end > now);
         self.settle(now);
+        self.events.iter_mut().for_each(Held::count_second);
         self.note_rows(&before, now);
     }
 
@@ -164,7 +193,7 @@ impl Naive {
         for old in before.iter().filter(|old| !old.cancelled) {
             let id = old.event.id;
             match self.position(id).map(|at| &self.events[at]) {
-                None if old.holds_any() => noted[0].push((id, 3)),
+                None if old.holds_any() => noted[0].push((id, old.end_code())),
                 None => (),
                 Some(new) if new.start == now && new.holds_any() => noted[2].push((id, 2)),
                 Some(new) if new.start == now => noted[1].push((id, 7)),
@@ -243,6 +272,7 @@ impl Calls for Naive {
             effective_start: drawn_start(event).max(self.clock + 1) as u64,
             held: 0,
             cancelled: false,
+            participation: Participation::default(),
         });
         self.events.push(held);
         Ok(1)
@@ -257,6 +287,17 @@ impl Calls for Naive {
         held.cancelled = true;
         held.holds = [false; 32];
         Ok(6)
+    }
+
+    fn choose(&mut self, id: u64, choice: Choice) -> Result<u8, u8> {
+        let at = self.position(id).ok_or(11)?;
+        let was = self.events[at].is_out;
+        self.events[at].is_out = choice == Choice::Out;
+        match (was, choice) {
+            (false, Choice::Out) => Ok(4),
+            (true, Choice::In) => Ok(5),
+            _ => Ok(0),
+        }
     }
 
     fn set_clock(&mut self, reading: u64, room: usize) -> Result<&[Row], u8> {
@@ -284,7 +325,7 @@ impl Calls for Naive {
         if control > 31 {
             return Err(14);
         }
-        let holds = |held: &&Held| held.holds[usize::from(control)];
+        let holds = |held: &&Held| held.holds[usize::from(control)] && !held.is_out;
         if let Some(held) = self.events.iter().find(holds) {
             return Ok(Answer::Event(held.event.id));
         }
@@ -317,5 +358,13 @@ fn entry(held: &Held) -> Entry {
         effective_start: held.start as u64,
         held: (0..32).map(bit).sum(),
         cancelled: held.cancelled,
+        participation: Participation {
+            choice: match held.is_out {
+                true => Choice::Out,
+                false => Choice::In,
+            },
+            was_in: held.was_in,
+            was_out: held.was_out,
+        },
     }
 }

@@ -4,6 +4,7 @@ use std::collections::{BTreeMap, BTreeSet};
 
 use super::support::listed;
 use crate::calls::lines_of;
+use crate::choice::Made;
 use crate::pair::pair;
 use crate::{decode, Answer, Calls, Event, Frame, Record, Row, Scheduler};
 
@@ -13,6 +14,8 @@ struct Premise {
     programs: BTreeSet<(u8, u8, u32)>,
     events: BTreeSet<Event>,
     cancellations: BTreeMap<Event, u64>,
+    /// Without repeats of the present choice.
+    choices: BTreeMap<Event, Vec<Made>>,
     last: u64,
 }
 
@@ -57,6 +60,13 @@ fn follow(calls: &mut Scheduler, frame: Frame, premise: &mut Premise, rows: &mut
                 premise.cancellations.insert(event, calls.clock());
             }
         }
+        Frame::Choice(id, choice) => {
+            if calls.choose(id, choice) == Ok(choice.code()) {
+                let event = listed(calls, id).entry.event;
+                let choices = premise.choices.entry(event).or_default();
+                choices.push((calls.clock(), choice));
+            }
+        }
         Frame::Clock(reading) => {
             if let Ok(more) = calls.set_clock(reading, 1_632) {
                 rows.extend_from_slice(more);
@@ -80,9 +90,16 @@ fn assert_no_two_holders(calls: &mut Scheduler) {
     }
 }
 
+/// How many lines opt out or in.
+fn choices_in(text: &[u8]) -> usize {
+    let is_choice = |frame: &Frame| matches!(frame, Frame::Choice(..));
+    lines_of(text).filter_map(decode).filter(is_choice).count()
+}
+
 #[test]
 fn pairs_meet_premise_and_conclusion() {
-    let (mut with_rows, mut different) = (0, 0);
+    let (mut with_rows, mut different, mut more_choices) = (0, 0, 0);
+    let mut codes = BTreeMap::new();
     for seed in 0..1_500 {
         let (first, second) = pair(seed);
         let (premise, results) = run(&first);
@@ -91,7 +108,14 @@ fn pairs_meet_premise_and_conclusion() {
         assert_eq!(results, other_results, "seed {seed}");
         with_rows += usize::from(results.rows.len() > 3);
         different += usize::from(first != second);
+        more_choices += usize::from(choices_in(&first) != choices_in(&second));
+        for row in &results.rows {
+            *codes.entry(row.code).or_insert(0) += 1;
+        }
     }
     assert!(with_rows > 700, "{with_rows}");
     assert!(different > 1_400, "{different}");
+    assert!(more_choices > 700, "{more_choices}");
+    let often = [2, 3, 7, 8, 9, 10].map(|code| codes[&code] > 200);
+    assert_eq!(often, [true; 6], "{codes:?}");
 }

@@ -1,8 +1,8 @@
--- Ends, then starts, then the rows of who holds nothing any more and of who starts.
+-- Ends, then starts, then the rows of who holds nothing any more and of who starts; then the second is counted.
 use mathlib.Core.Path.{_∙_}
 use native.Mathlib.Omega.{arith}
 use Rattle.rules.specs.Records.{cut, join}
-use Rattle.calls.proofs.Moments.{ended-in, first-room, can-start, losing-in, starting-in, room, past}
+use Rattle.calls.proofs.Moments.{ended-in, first-room, can-start, losing-in, starting-in, room, fresh-in, past}
 use Rattle.calls.proofs.clock.moment.Statement.{statement}
 use Rattle.calls.proofs.clock.moment.Tie as tie
 
@@ -60,14 +60,27 @@ report-requires-3 c κs =
       omega (arith, room a (r .release .ensures) (s .start .ensures), one .report .ensures .count, two .report2 .ensures .count),
     )
 
+-- all rows are written
+abbrev told : tie.After-count → tie.After-report3
+told c = c .before .before .before
+
+count-requires : tie.Need-count-requires
+unfolding cut join
+count-requires c κs =
+    let s = started (lost (c .before .before)) in
+    let r = released s in
+    let a = entry (ended r) .pre in
+    (s .start .ensures .masks .size, λ i e. omega (arith, fresh-in a (r .release .ensures) (s .start .ensures) i e, a .held .used .few))
+
 returns : tie.Need-returns
 unfolding cut join
 returns c =
-    let two = lost c in
+    let three = told (c .before) in
+    let two = lost three in
     let s = started two in
     let r = released s in
     let one = ended r in
-    past (entry one .pre) (r .release .ensures) (s .start .ensures) (one .report .ensures) (two .report2 .ensures) (c .report3 .ensures)
+    past (entry one .pre) (r .release .ensures) (s .start .ensures) (c .before .count .ensures) (one .report .ensures) (two .report2 .ensures) (three .report3 .ensures)
 
 pub moment-spec : {M : Type 1} → statement M
-moment-spec = tie.close (tie.spec report-requires release-requires start-requires report-requires-2 report-requires-3 returns)
+moment-spec = tie.close (tie.spec report-requires release-requires start-requires report-requires-2 report-requires-3 count-requires returns)

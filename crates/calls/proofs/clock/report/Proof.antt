@@ -8,10 +8,10 @@ use Rattle.calls.proofs.clock.report.Statement.{statement}
 use Rattle.calls.proofs.clock.report.Tie as tie
 
 abbrev Inv-loop : tie.InvT-loop
-Inv-loop rows₀ from t slots set code at₀ rest₀ rows at rest = Reporting t code slots set rows₀ from rows at rest
+Inv-loop rows₀ from t slots set kind at₀ rest₀ rows at rest = Reporting t kind slots set rows₀ from rows at rest
 
 abbrev μ-loop : tie.MeasureT-loop
-μ-loop rows₀ from t slots set code at₀ rest₀ rows at rest = rest
+μ-loop rows₀ from t slots set kind at₀ rest₀ rows at rest = rest
 
 -- the row that comes next has a slot, and fits
 slot : (c : tie.After-lowest Inv-loop μ-loop) → c .lowest .result .place < mostEvents
@@ -23,8 +23,9 @@ room c = let l = c .before .before in has-room _ _ _ _ (l .loop .inv) (c .lowest
 loop-again : tie.Need-loop-again Inv-loop μ-loop
 loop-again c =
     let read = c .before in
-    let next = read .before .before in
-    report-next _ _ _ _ (next .before .before .loop .inv) (next .lowest .ensures) (rw (read .id-at .ensures) at (c .add-row .ensures))
+    let told = read .before .before in
+    let next = told .before in
+    report-next _ _ _ _ (next .before .before .loop .inv) (next .lowest .ensures) (rw (read .id-at .ensures, told .code-at .ensures) at (c .add-row .ensures))
 
 pub report-spec : {M : Type 1} → statement M
 report-spec =
@@ -34,9 +35,10 @@ report-spec =
     μ-loop
     (λ c. none-reported _ _ _ _ _ _ (c .pre .1))
     (λ c κs. c .loop-test .taken)
-    (λ c κs. slot (c .before))
-    (λ c κs. let l = c .before .before .before .before in (l .loop .inv .written .size ∙ l .before .pre .0, room (c .before .before)))
-    (λ c. omega (arith, room (c .before .before .before)))
-    (λ c. c .before .before .before .lowest .ensures .less)
+    (λ c κs. slot c)
+    (λ c κs. slot (c .before .before))
+    (λ c κs. let next = c .before .before .before in let l = next .before .before in (l .loop .inv .written .size ∙ l .before .pre .0, room next))
+    (λ c. omega (arith, room (c .before .before .before .before)))
+    (λ c. c .before .before .before .before .lowest .ensures .less)
     loop-again
     (λ c. all-reported _ _ _ _ (c .before .loop .inv) (c .loop-test .left)))

@@ -1,5 +1,5 @@
 -- A number that applies is given. Else the event is held already, and nothing changes, or it is taken in.
-use mathlib.Core.Path.{_≡_, refl, sym, ap, _∙_}
+use mathlib.Core.Path.{_≡_, refl, sym, ap, _∙_, ap₂}
 use mathlib.Core.Bool.{Bool, true, false, cond}
 use mathlib.Core.List.{[]}
 use mathlib.Core.Option.{Option, none, some}
@@ -67,13 +67,14 @@ fits c =
     }
 
 put-in-requires : tie.Need-put-in-requires
-put-in-requires c κs = fits (c .before .before .before)
+put-in-requires c κs = fits (c .before .before .before .before)
 
 returns-3 : tie.Need-returns-3
 returns-3 c =
     let put = c .before in
     let slotted = put .before .before in
-    let timed = slotted .before in
+    let fresh = slotted .before in
+    let timed = fresh .before in
     let new = timed .before in
     let number = new .before .before in
     let begun = start number in
@@ -85,8 +86,8 @@ returns-3 c =
     let opens = fits new in
     let below : d .count < mostEvents = opens .room in
     let clock : min (d .clock) lastClock ≡ d .clock = omega (arith, sound-of (begun .pre) .clock) in
-    let is-new : record { event = v; begins = timed .period .result .start; held = 0; cancelled = false } ≡ entry (d .clock) v =
-    ap (λ t. record { event = v; begins = t .start; held = 0; cancelled = false }) (timed .period .ensures ∙ ap (periodOf v) clock) in
+    let is-new : record { event = v; begins = timed .period .result .start; held = 0; cancelled = false; choice = fresh .none .result } ≡ entry (d .clock) v =
+    ap₂ (λ t c. record { event = v; begins = t .start; held = 0; cancelled = false; choice = c }) (timed .period .ensures ∙ ap (periodOf v) clock) (fresh .none .ensures) in
     record {
       used = record { few = omega arith; size = rw (put .put-in .ensures) (put-in-long w (d .count) (omega (arith, opens .size)) (slot .result) (place .result .at) (opens .within) ∙ opens .size) };
       outcome =
@@ -97,4 +98,4 @@ returns-3 c =
 pub deliver-spec : {M : Type 1} → statement M
 deliver-spec =
     tie.close
-    (tie.spec (λ c κs. search needs) (λ c κs. search needs) returns returns-2 (search needs) (search needs) put-in-requires (search needs) returns-3)
+    (tie.spec (λ c κs. search needs) (λ c κs. search needs) returns returns-2 (search needs) (search needs) (search needs) put-in-requires (search needs) returns-3)

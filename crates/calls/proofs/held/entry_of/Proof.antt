@@ -33,4 +33,7 @@ entry-of-spec =
     (search needs)
     (search needs)
     (search needs)
+    (search needs)
+    (search needs)
+    (search needs)
     (λ c. rw (c .of .ensures)))

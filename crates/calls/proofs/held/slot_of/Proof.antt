@@ -1,34 +1,32 @@
 -- Each number fits the width of its field, so cutting it to that width changes nothing, and the mark is 1 only if the event is cancelled.
-use mathlib.Core.Path.{_≡_, ap, _∙_}
-use Prim.Native.Nat.{ℕ}
-use mathlib.Core.Bool.{Bool, true, false, cond}
+use mathlib.Core.Path.{ap, _∙_}
 use native.Mathlib.Nat.{mod-eq-of-lt}
 use native.Mathlib.Omega.{arith}
 use borrow.Author.Needs.{needs}
-use lib.Dec.{eqb}
 use Rattle.rules.specs.Records.{idFrom}
 use Rattle.rules.proofs.IdLaws.{id-number}
 use Rattle.rules.proofs.Ranges.{entry-fits}
 use Rattle.calls.specs.Slots.{entryOf}
+use Rattle.calls.proofs.Slots.{marked}
 use Rattle.calls.proofs.held.slot_of.Statement.{statement}
 use Rattle.calls.proofs.held.slot_of.Tie as tie
-
-marked : (b : Bool) (m : ℕ) → m ≡ cond b 1 0 → eqb m 1 ≡ b
-marked true m e = rw e
-marked false m e = rw e
 
 returns : tie.Need-returns
 unfolding entryOf
 returns c =
-    let number = c .before .before .before .before .before .before .before .before .before .before .before in
+    let cancelled = c .before .before .before in
+    let number = cancelled .before .before .before .before .before .before .before .before .before .before .before in
     let start = number .before in
     let h = start .args .h in
     let f = entry-fits h _ (start .good .0) in
     let e = f .event in
     let held = f .held in
     let id = ap idFrom (number .number .ensures) ∙ id-number (h .event .id) in
-    let mark = marked (h .cancelled) (c .mark .result) (c .mark .ensures) in
-    simp (id, mark, mod-eq-of-lt, e .program, e .controls, e .created, e .start, e .duration)
+    let mark = marked (h .cancelled) _ (cancelled .mark .ensures) in
+    let out = marked (h .choice .out) _ (c .before .before .mark2 .ensures) in
+    let was-in = marked (h .choice .«was_in») _ (c .before .mark3 .ensures) in
+    let was-out = marked (h .choice .«was_out») _ (c .mark4 .ensures) in
+    simp (id, mark, out, was-in, was-out, mod-eq-of-lt, e .program, e .controls, e .created, e .start, e .duration)
     (simp (mod-eq-of-lt, e .«randomize_start», e .«randomize_duration», e .«start_draw», e .«duration_draw»))
 
 pub slot-of-spec : {M : Type 1} → statement M
@@ -41,10 +39,13 @@ slot-of-spec =
     (search needs)
     (search needs)
     (search needs)
-    (search needs)
+    (λ c. omega (arith, c .struct-known6 .given))
     (λ c. omega (arith, c .struct-known7 .given))
     (λ c. omega (arith, c .struct-known8 .given))
     (λ c. omega (arith, c .struct-known9 .given))
     (λ c. omega (arith, c .struct-known10 .given))
+    (search needs)
+    (search needs)
+    (search needs)
     (search needs)
     returns)

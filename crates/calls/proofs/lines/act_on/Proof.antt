@@ -17,6 +17,11 @@ returns-5 c =
     let pre = read .before .before .pre in
     rw (read .f5 .given .1) (on-bare refl (pre .long) (record { used = pre .ready .used; outcome = c .ask .ensures }))
 
+returns-7 : tie.Need-returns-7
+returns-7 c =
+    let read = c .before .before .before in
+    rw (read .f7 .given .1) (on-bare refl (read .before .before .pre .long) (c .choose2 .ensures))
+
 pub act-on-spec : {M : Type 1} → statement M
 act-on-spec =
     tie.close
@@ -31,8 +36,14 @@ act-on-spec =
     (search needs)
     (search needs)
     (λ c κs. search needs)
+    (search needs)
+    (λ c κs. search needs)
+    (search needs)
+    (λ c κs. search needs)
     (λ c. let read = c .before .before .before in rw (read .f .given .1) (on-bare refl (read .before .before .pre .long) (c .deliver .ensures)))
     (λ c. let read = c .before .before .before in rw (read .f2 .given .1) (on-bare refl (read .before .before .pre .long) (c .cancel .ensures)))
     (λ c. rw (c .before .before .before .before .f3 .given .1) (on-clock _ (c .pass .ensures)))
     returns-4
-    returns-5)
+    returns-5
+    (λ c. let read = c .before .before .before in rw (read .f6 .given .1) (on-bare refl (read .before .before .pre .long) (c .choose .ensures)))
+    returns-7)

@@ -32,7 +32,7 @@ returns c =
     record {
       number = refl;
       value = ap (λ x. holder (idNumber x)) (c .id-at .ensures)
-          ∙ held-here (a .control) (a .n) (a .slots .now) (valueOf (a .other)) (omega arith) (l .i) (omega arith) (sym (holds .is-holder .ensures) ∙ c .before .if1 .taken) ∙ sym (l .inv .3);
+          ∙ held-here (a .control) (a .n) (a .slots .now) (valueOf (a .other)) (omega arith) (l .i) (omega arith) (sym (holds .is-governor .ensures) ∙ c .before .if1 .taken) ∙ sym (l .inv .3);
     }
 
 loop-again : tie.Need-loop-again Inv-loop μ-loop
@@ -42,7 +42,7 @@ loop-again c =
       omega arith,
       l .inv .1,
       l .inv .2,
-      l .inv .3 ∙ not-here (a .control) (a .n) (a .slots .now) (valueOf (a .other)) (omega arith) (l .i) (omega arith) (sym (c .before .is-holder .ensures) ∙ c .if1 .left),
+      l .inv .3 ∙ not-here (a .control) (a .n) (a .slots .now) (valueOf (a .other)) (omega arith) (l .i) (omega arith) (sym (c .before .is-governor .ensures) ∙ c .if1 .left),
     )
 
 returns-2 : tie.Need-returns-2 Inv-loop μ-loop

@@ -9,7 +9,7 @@ use lib.Pow.{shl-exact}
 use lib.Seq.{getD-set-same, getD-set-other}
 use Rattle.calls.specs.Slots.{entryOf}
 use Rattle.calls.specs.Sets.{Masked}
-use Rattle.calls.proofs.Sets.{counted-out, counted-in}
+use Rattle.calls.proofs.Sets.{kept-out, kept-in}
 use Rattle.calls.proofs.settle.hold.Statement.{statement}
 use Rattle.calls.proofs.settle.hold.Tie as tie
 
@@ -27,12 +27,12 @@ masked c =
 returns : tie.Need-returns
 returns c =
     let a = c .before .before .before .args in
-    (masked (c .before), rw (shl-exact {a = 1} 1 (a .i) 64 (omega arith) (omega arith), one-mul) (counted-out (a .holding) (a .i) (a .mask) (c .if1 .taken)))
+    (masked (c .before), rw (shl-exact {a = 1} 1 (a .i) 64 (omega arith) (omega arith), one-mul) (kept-out (a .holding) (a .i) (a .mask) (c .if1 .taken)))
 
 returns-2 : tie.Need-returns-2
 returns-2 c =
     let a = c .before .before .before .args in
-    (masked (c .before), rw (shl-exact {a = 1} 1 (a .i) 64 (omega arith) (omega arith), one-mul) (counted-in (a .holding) (a .i) (a .mask) (c .if1 .left)))
+    (masked (c .before), rw (shl-exact {a = 1} 1 (a .i) 64 (omega arith) (omega arith), one-mul) (kept-in (a .holding) (a .i) (a .mask) (c .if1 .left)))
 
 pub hold-spec : {M : Type 1} → statement M
 hold-spec =

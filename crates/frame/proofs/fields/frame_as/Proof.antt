@@ -1,11 +1,11 @@
 -- Kind by kind, its fields, which are all there.
-use mathlib.Core.Path.{_∙_}
+use mathlib.Core.Path.{sym, _∙_}
 use native.Mathlib.Omega.{arith}
 use borrow.Author.Needs.{needs}
-use borrow.Author.Tests.{ne-eqb}
 use Rattle.octets.proofs.Fits.{get-inside, get-fits, id-inside, event-inside}
 use Rattle.frame.specs.Decoded.{frameAs}
 use Rattle.frame.proofs.Fronts.{read-one}
+use Rattle.frame.proofs.ByKind.{no-kind, frame-none}
 use Rattle.frame.proofs.fields.frame_as.Statement.{statement}
 use Rattle.frame.proofs.fields.frame_as.Tie as tie
 
@@ -17,9 +17,7 @@ returns c =
 
 returns-2 : tie.Need-returns-2
 unfolding frameAs
-returns-2 c =
-    let id = c .get-id .ensures ∙ id-inside _ _ (omega arith) in
-    rw (c .before .match .keys2, id)
+returns-2 c = rw (c .before .match .keys2, c .get-id .ensures ∙ id-inside _ _ (omega arith))
 
 returns-3 : tie.Need-returns-3
 unfolding frameAs
@@ -44,10 +42,14 @@ returns-5 c = let kind = c .before in rw (kind .match .keys5, read-one 1 (kind .
 
 returns-6 : tie.Need-returns-6
 unfolding frameAs
-returns-6 c =
-    let k = c .before .before .args .kind in
-    let r = c .match .rest in
-    simp (ne-eqb k 1 (r .0 .0 .0 .0 .1), ne-eqb k 2 (r .0 .0 .0 .1), ne-eqb k 3 (r .0 .0 .1), ne-eqb k 4 (r .0 .1), ne-eqb k 5 (r .1))
+returns-6 c = rw (c .before .match .keys6, c .get-id2 .ensures ∙ id-inside _ _ (omega arith))
+
+returns-7 : tie.Need-returns-7
+unfolding frameAs
+returns-7 c = rw (c .before .match .keys7, c .get-id3 .ensures ∙ id-inside _ _ (omega arith))
+
+returns-8 : tie.Need-returns-8
+returns-8 c = sym (frame-none _ (no-kind (c .match .rest)) _)
 
 pub frame-as-spec : {M : Type 1} → statement M
 frame-as-spec =
@@ -61,9 +63,13 @@ frame-as-spec =
     (λ c. search needs)
     (λ c. search needs)
     (λ c. search needs)
+    (λ c κs. search needs)
+    (λ c κs. search needs)
     returns
     returns-2
     returns-3
     returns-4
     returns-5
-    returns-6)
+    returns-6
+    returns-7
+    returns-8)

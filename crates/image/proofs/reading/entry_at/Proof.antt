@@ -9,14 +9,20 @@ use Rattle.image.proofs.reading.entry_at.Tie as tie
 returns : tie.Need-returns
 unfolding entryAt
 returns c =
-    let event = c .before .before .before in
+    let choice = c .before in
+    let mark = choice .before in
+    let held = mark .before in
+    let begins = held .before in
+    let event = begins .before in
     let a = event .before .before .args in
     rw (
       event .get-event .ensures,
       event-inside (a .at) (a .b .now) (omega arith),
-      c .before .before .u64-at .ensures,
-      c .before .u32-at .ensures,
-      c .u8-at .ensures,
+      begins .u64-at .ensures,
+      held .u32-at .ensures,
+      mark .u8-at .ensures,
+      c .choice-of .ensures,
+      choice .u8-at2 .ensures,
     )
 
 pub entry-at-spec : {M : Type 1} → statement M
@@ -29,5 +35,8 @@ entry-at-spec =
     (λ c. search needs)
     (λ c κs. search needs)
     (λ c. search needs)
+    (λ c κs. search needs)
+    (λ c. search needs)
+    (λ c κs. search needs)
     (λ c κs. search needs)
     returns)
