@@ -132,7 +132,7 @@ pub fn set_clock(s: Schedule, reading: u64, buffer: &mut [u8]) -> Answered
     refused(s, 2)
 }
 
-// Calls, ask for a control: its holder, else the program of its default, else nobody.
+// Calls, ask for a control: its holder if that one's user is in, else the program of its default, else nobody.
 pub fn ask(s: Schedule, control: u8) -> Answered
     ensures { λ r. ⌜ outcomeOf r [] [] ≡ call s (ask control) ⌝ }
 {

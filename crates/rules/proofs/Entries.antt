@@ -77,32 +77,27 @@ flag-small true = refl
 flag-small false = refl
 
 -- a choice's byte is that choice, and has no bit above 2
-pub choice-read : (c : Choice) → choiceOf (0 * 256 + choiceByte c) ≡ c
+choice-kept : (c : Choice) → (choiceOf (0 * 256 + choiceByte c) ≡ c) × (leb (0 * 256 + choiceByte c) 7 ≡ true)
 unfolding has
-choice-read c = go (c .out) (c .«was_in») (c .«was_out»)
+choice-kept c = go (c .out) (c .«was_in») (c .«was_out»)
   where
-    go : (a b d : Bool) → choiceOf (0 * 256 + (cond a 1 0 + (cond b 2 0 + cond d 4 0))) ≡ record { out = a; «was_in» = b; «was_out» = d }
-    go true true true = refl
-    go true true false = refl
-    go true false true = refl
-    go true false false = refl
-    go false true true = refl
-    go false true false = refl
-    go false false true = refl
-    go false false false = refl
+    go :
+        (a b d : Bool)
+        → let x = 0 * 256 + (cond a 1 0 + (cond b 2 0 + cond d 4 0)) in (choiceOf x ≡ record { out = a; «was_in» = b; «was_out» = d }) × (leb x 7 ≡ true)
+    go true true true = (refl, refl)
+    go true true false = (refl, refl)
+    go true false true = (refl, refl)
+    go true false false = (refl, refl)
+    go false true true = (refl, refl)
+    go false true false = (refl, refl)
+    go false false true = (refl, refl)
+    go false false false = (refl, refl)
+
+pub choice-read : (c : Choice) → choiceOf (0 * 256 + choiceByte c) ≡ c
+choice-read c = choice-kept c .0
 
 pub choice-small : (c : Choice) → leb (0 * 256 + choiceByte c) 7 ≡ true
-choice-small c = go (c .out) (c .«was_in») (c .«was_out»)
-  where
-    go : (a b d : Bool) → leb (0 * 256 + (cond a 1 0 + (cond b 2 0 + cond d 4 0))) 7 ≡ true
-    go true true true = refl
-    go true true false = refl
-    go true false true = refl
-    go true false false = refl
-    go false true true = refl
-    go false true false = refl
-    go false false true = refl
-    go false false false = refl
+choice-small c = choice-kept c .1
 
 -- a byte with no bit above 2 is that of its choice
 pub choice-byte : (x : ℕ) → x ≤ 7 → choiceByte (choiceOf x) ∷ [] ≡ big 1 x
