@@ -31,7 +31,7 @@ use Rattle.calls.specs.declared.agenda.Taken.{Taken}
 use Rattle.calls.specs.declared.clock.Due.{Due}
 use Rattle.calls.specs.declared.clock.Standing.{Standing}
 use Rattle.calls.specs.Slots.{slotState, scheduleOf, InUse, Ready}
-use Rattle.calls.specs.Sets.{eventAt, maskAt, counting, placesTo, Numbered, SetOf, Holders, HoldingsOnly, Counted, setWidth}
+use Rattle.calls.specs.Sets.{eventAt, maskAt, counting, placesTo, Numbered, SetOf, Holders, HoldingsOnly, SecondCounted, setWidth}
 use Rattle.calls.specs.Agenda.{Agenda, TakenTo, secondWidth}
 use Rattle.calls.specs.Moment.{Distinct, OneHolderIn, Before, Marked, Steady, Ahead, Past}
 use Rattle.calls.specs.Written.{Written}
@@ -300,7 +300,7 @@ module _ {d : Head} {w : List (List ℕ)} {to : ℕ} {agenda old : List ℕ} {no
 
     -- A quiet second, which is counted for those that hold something.
 
-    module _ (quietly : clock + 1 < t) (passing : clock < to) {new : List (List ℕ)} (c : Counted (s .holding) now new) where
+    module _ (quietly : clock + 1 < t) (passing : clock < to) {new : List (List ℕ)} (c : SecondCounted (s .holding) now new) where
       rests : All (Idle clock 1) (keep (lasts clock) hs)
       rests = let one : clock + 1 - clock ≡ 1 = omega arith in rw one at (still (clock + 1) quietly (omega arith) (omega arith))
 

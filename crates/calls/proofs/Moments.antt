@@ -29,7 +29,7 @@ use Rattle.calls.specs.declared.clock.Due.{Due}
 use Rattle.calls.specs.declared.clock.Standing.{Standing}
 use Rattle.calls.specs.Moment.{Before, CanStart, Started, Released, Marked, Ahead, Past}
 use Rattle.calls.specs.Slots.{slotState}
-use Rattle.calls.specs.Sets.{eventAt, maskAt, masked, counting, rankIn, placesTo, Holders, MasksOnly, HoldingsOnly, Counted, kindCode, setRows}
+use Rattle.calls.specs.Sets.{eventAt, maskAt, masked, counting, rankIn, placesTo, Holders, MasksOnly, HoldingsOnly, SecondCounted, kindCode, setRows}
 use Rattle.calls.specs.Settled.{Settled}
 use Rattle.calls.specs.Written.{Written}
 use Rattle.calls.proofs.Slots.{at-in, in-at, in-slots, slot-at}
@@ -318,7 +318,7 @@ on-mask {n} holding w h i l = go (eqb (maskAt w i) 0) refl
     go false e = h i .1 (l, eqb-false (maskAt w i) 0 e)
 
 -- a quiet second, counted for those that hold something
-pub quiet-counted : {n : ℕ} (holding : ℕ) (old : List (List ℕ)) {new : List (List ℕ)} → Holders n old holding → Counted holding old new → (i : ℕ) → i < n → eventAt new i ≡ remarked (eventAt old i)
+pub quiet-counted : {n : ℕ} (holding : ℕ) (old : List (List ℕ)) {new : List (List ℕ)} → Holders n old holding → SecondCounted holding old new → (i : ℕ) → i < n → eventAt new i ≡ remarked (eventAt old i)
 quiet-counted {n} holding old {new} h c i l =
     c .each i ∙ ap (λ b. cond b (counting (eventAt old i)) (eventAt old i)) (sym (and-true (has holding i)))
     ∙ carried-by (eventAt old i) (maskAt old i) (has holding i) false (on-mask holding old h i l) (λ e. both true refl (sym e))
@@ -522,7 +522,7 @@ module _ {d : Head} {w : List (List ℕ)} {t : ℕ} {due : Due} {s : Standing} {
 
       -- The second is counted.
 
-      module _ {last : List (List ℕ)} (c : Counted fresh new last) where
+      module _ {last : List (List ℕ)} (c : SecondCounted fresh new last) where
         all-holdings : HoldingsOnly w last
         all-holdings = holdings-trans (masks-holdings all-masks) (counted-holdings c)
 

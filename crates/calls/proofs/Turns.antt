@@ -20,7 +20,7 @@ use Rattle.rules.proofs.ListLaws.{keep-no}
 use Rattle.calls.specs.declared.held.Head.{Head}
 use Rattle.calls.specs.declared.bits.Next.{Next}
 use Rattle.calls.specs.Slots.{entryOf}
-use Rattle.calls.specs.Sets.{eventAt, maskAt, rankIn, Lowest, Holders, masked, counting, Masked, Kept, MasksOnly, HoldingsOnly, holdingOf, Counted, placesTo, kindCode, setRows}
+use Rattle.calls.specs.Sets.{eventAt, maskAt, rankIn, Lowest, Holders, masked, counting, Masked, Kept, MasksOnly, HoldingsOnly, holdingOf, SecondCounted, placesTo, kindCode, setRows}
 use Rattle.calls.specs.Settled.{Comes, Contended, Settled, Contends}
 use Rattle.calls.specs.Written.{Written}
 use Rattle.calls.specs.Moment.{CanStart, Started, Released}
@@ -324,25 +324,25 @@ count-next {places} {rest} {old} {now} c {next} low l x e = record {
         ∙ ap counting (c .each (next .place) ∙ ap (λ b. cond b (counting (eventAt old (next .place))) (eventAt old (next .place))) not-yet)
         ∙ sym (rw (its-turn places low (c .within (next .place) (low .here))))
 
-pub all-counted : {places rest : ℕ} {old now : List (List ℕ)} → Counting places old now rest → rest ≡ 0 → Counted places old now
+pub all-counted : {places rest : ℕ} {old now : List (List ℕ)} → Counting places old now rest → rest ≡ 0 → SecondCounted places old now
 all-counted {places} {rest} c e = record { size = c .size; each = λ j. c .each j ∙ (rw (all-turned places rest j e)) }
 
 -- a held second counted changes nothing else, and no mask
-pub counted-holdings : {places : ℕ} {old now : List (List ℕ)} → Counted places old now → HoldingsOnly old now
+pub counted-holdings : {places : ℕ} {old now : List (List ℕ)} → SecondCounted places old now → HoldingsOnly old now
 counted-holdings {places} {old} {now} c = record { size = c .size; each = λ j. c .each j ∙ go j (has places j) ∙ ap (λ h. withHolding (eventAt old j) (holdingOf h)) (sym (c .each j)) }
   where
     go : (j : ℕ) (b : Bool) → cond b (counting (eventAt old j)) (eventAt old j) ≡ withHolding (eventAt old j) (holdingOf (cond b (counting (eventAt old j)) (eventAt old j)))
     go j true = refl
     go j false = refl
 
-pub counted-mask : {places : ℕ} {old now : List (List ℕ)} → Counted places old now → (j : ℕ) → maskAt now j ≡ maskAt old j
+pub counted-mask : {places : ℕ} {old now : List (List ℕ)} → SecondCounted places old now → (j : ℕ) → maskAt now j ≡ maskAt old j
 counted-mask {places} {old} c j = ap (λ h. h .held) (c .each j) ∙ go (has places j)
   where
     go : (b : Bool) → cond b (counting (eventAt old j)) (eventAt old j) .held ≡ maskAt old j
     go true = refl
     go false = refl
 
-pub counted-holders : {places n : ℕ} (holding : ℕ) {old now : List (List ℕ)} → Counted places old now → Holders n old holding → Holders n now holding
+pub counted-holders : {places n : ℕ} (holding : ℕ) {old now : List (List ℕ)} → SecondCounted places old now → Holders n old holding → Holders n now holding
 counted-holders holding c h i = (
   λ e. let q = h i .0 e in (q .0, λ z. q .1 (sym (counted-mask c i) ∙ z)),
   λ q. h i .1 (q .0, λ z. q .1 (counted-mask c i ∙ z)),

@@ -16,7 +16,7 @@ use Rattle.calls.specs.declared.advance.Passed.{Passed}
 use Rattle.calls.specs.declared.held.Head.{Head}
 use Rattle.calls.specs.declared.clock.Standing.{Standing}
 use Rattle.calls.specs.Slots.{slotState, scheduleOf, InUse}
-use Rattle.calls.specs.Sets.{eventAt, SetOf, HoldingsOnly, Counted}
+use Rattle.calls.specs.Sets.{eventAt, SetOf, HoldingsOnly, SecondCounted}
 
 -- the schedule at the reading, how many rows there are, and their bytes at the front of the buffer
 pub record Advanced (s : Schedule) (reading : ℕ) (buffer : List ℕ) (next : Schedule) (count : ℕ) : Type 0 where
@@ -27,7 +27,7 @@ pub record Advanced (s : Schedule) (reading : ℕ) (buffer : List ℕ) (next : S
 
 -- the second after the clock is counted for those that hold something, if it is quiet
 pub record Opened (quiet : Bool) (holding : ℕ) (old new : List (List ℕ)) (r : Standing) : Type 0 where
-  pub counts : quiet ≡ true → Counted holding old new
+  pub counts : quiet ≡ true → SecondCounted holding old new
   pub stays : quiet ≡ false → new ≡ old
   pub standing : r ≡ record { holding = holding; counted = cond quiet holding 0; rows = 0 }
 

@@ -105,7 +105,7 @@ pub record HoldingsOnly (old new : List (List ℕ)) : Type 0 where
   pub each : (j : ℕ) → eventAt new j ≡ withHolding (eventAt old j) (holdingOf (eventAt new j))
 
 -- a held second is counted for the events at the places of a set
-pub record Counted (set : ℕ) (old new : List (List ℕ)) : Type 0 where
+pub record SecondCounted (set : ℕ) (old new : List (List ℕ)) : Type 0 where
   pub size : length new ≡ mostEvents
   pub each : (j : ℕ) → eventAt new j ≡ cond (has set j) (counting (eventAt old j)) (eventAt old j)
 

@@ -9,7 +9,7 @@ ghost use Rattle.rules.specs.Records.{has, idNumber, mostEvents, mostRows};
 ghost use Rattle.rules.specs.Rows.{endCode};
 ghost use Rattle.rules.specs.Bytes.{rowsSize};
 ghost use Rattle.calls.specs.Slots.{InUse};
-ghost use Rattle.calls.specs.Sets.{eventAt, Holders, Counted, kindCode, setRows};
+ghost use Rattle.calls.specs.Sets.{eventAt, Holders, SecondCounted, kindCode, setRows};
 ghost use Rattle.calls.specs.Written.{Written};
 ghost use Rattle.calls.specs.Moment.{CanStart, Started, Released, Ahead, Past};
 use crate::bits;
@@ -147,7 +147,7 @@ fn start(d: Head, slots: &mut Slots, holding: u64, starting: u64) -> u64
 // Document 02, #102: a held second is counted for the events of a set.
 pub(crate) fn count(slots: &mut Slots, set: u64)
     requires { ⌜ (length (now slots) ≡ mostEvents) × ((i : ℕ) → has set i ≡ true → i < mostEvents) ⌝ }
-    ensures { λ _. ⌜ Counted set (now (slots .entry)) (now (slots .exit)) ⌝ }
+    ensures { λ _. ⌜ SecondCounted set (now (slots .entry)) (now (slots .exit)) ⌝ }
 {
     let mut rest = set;
     while rest != 0 {

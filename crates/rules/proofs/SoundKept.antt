@@ -178,28 +178,37 @@ module _ (s : State) (v : Sound s) where
       differ : (x : Entry) → In x (s .entries) → entryId x ≤ idOf e → entryId x < idOf e
       differ x m l = let d = find-none (idOf e) (s .entries) f x m in omega arith
 
-  sound-cancel : (i : ℕ) → Sound (withEntries s (map (mark i) (s .entries)))
-  sound-cancel i = record {
+  -- a change of each entry that keeps its rules, the order of the ids and that no two hold a control
+  changed :
+      (f : Entry → Entry)
+      → ((x y : Entry) → ById x y → ById (f x) (f y))
+      → ((h : Entry) → SoundEntry (s .programs) (s .clock) h → SoundEntry (s .programs) (s .clock) (f h))
+      → ((x y : Entry) → Apart x y → Apart (f x) (f y))
+      → Sound (withEntries s (map f (s .entries)))
+  changed f ids each apart = record {
     clock = v .clock;
     eight = v .eight;
     programs = v .programs;
-    room = omega (arith, length-map (s .entries) (mark i), v .room);
-    ids = asc-map ById ById (mark i) (λ x y b. b) (s .entries) (v .ids);
-    entries = all-map (SoundEntry (s .programs) (s .clock)) (mark i) (s .entries) (λ h m. let q = v .entries h m in record {
-      numbered = q .numbered;
-      added = q .added;
-      well = q .well;
-      from = q .from;
-      short = q .short;
-      lasts = q .lasts;
-      within = λ k e. q .within k (has-either (eqb (entryId h) i) (h .held) k e);
-      early = λ l. none-left (eqb (entryId h) i) (h .held) (q .early l);
-      stopped = λ e. gone (eqb (entryId h) i) (h .cancelled) (h .held) (q .stopped) e;
-      uncounted = q .uncounted;
-      counts = λ f. q .counts (λ z. f (none-left (eqb (entryId h) i) (h .held) z));
-    });
-    apart = asc-map Apart Apart (mark i) (λ x y a k e d. a k (has-either (eqb (entryId x) i) (x .held) k e) (has-either (eqb (entryId y) i) (y .held) k d)) (s .entries) (v .apart);
+    room = omega (arith, length-map (s .entries) f, v .room);
+    ids = asc-map ById ById f ids (s .entries) (v .ids);
+    entries = all-map (SoundEntry (s .programs) (s .clock)) f (s .entries) (λ h m. each h (v .entries h m));
+    apart = asc-map Apart Apart f apart (s .entries) (v .apart);
   }
+
+  sound-cancel : (i : ℕ) → Sound (withEntries s (map (mark i) (s .entries)))
+  sound-cancel i = changed (mark i) (λ x y b. b) (λ h q. record {
+    numbered = q .numbered;
+    added = q .added;
+    well = q .well;
+    from = q .from;
+    short = q .short;
+    lasts = q .lasts;
+    within = λ k e. q .within k (has-either (eqb (entryId h) i) (h .held) k e);
+    early = λ l. none-left (eqb (entryId h) i) (h .held) (q .early l);
+    stopped = λ e. gone (eqb (entryId h) i) (h .cancelled) (h .held) (q .stopped) e;
+    uncounted = q .uncounted;
+    counts = λ f. q .counts (λ z. f (none-left (eqb (entryId h) i) (h .held) z));
+  }) (λ x y a k e d. a k (has-either (eqb (entryId x) i) (x .held) k e) (has-either (eqb (entryId y) i) (y .held) k d))
     where
       none-left : (b : Bool) (m : ℕ) → m ≡ 0 → cond b 0 m ≡ 0
       none-left true m e = refl
@@ -210,27 +219,19 @@ module _ (s : State) (v : Sound s) where
       gone false c m f e = f e
 
   pub sound-choose : (i : ℕ) (out : Bool) → Sound (withEntries s (map (decide i out) (s .entries)))
-  sound-choose i out = record {
-    clock = v .clock;
-    eight = v .eight;
-    programs = v .programs;
-    room = omega (arith, length-map (s .entries) (decide i out), v .room);
-    ids = asc-map ById ById (decide i out) (λ x y b. b) (s .entries) (v .ids);
-    entries = all-map (SoundEntry (s .programs) (s .clock)) (decide i out) (s .entries) (λ h m. let q = v .entries h m in record {
-      numbered = q .numbered;
-      added = q .added;
-      well = q .well;
-      from = q .from;
-      short = q .short;
-      lasts = q .lasts;
-      within = q .within;
-      early = q .early;
-      stopped = q .stopped;
-      uncounted = q .uncounted;
-      counts = q .counts;
-    });
-    apart = asc-map Apart Apart (decide i out) (λ x y a. a) (s .entries) (v .apart);
-  }
+  sound-choose i out = changed (decide i out) (λ x y b. b) (λ h q. record {
+    numbered = q .numbered;
+    added = q .added;
+    well = q .well;
+    from = q .from;
+    short = q .short;
+    lasts = q .lasts;
+    within = q .within;
+    early = q .early;
+    stopped = q .stopped;
+    uncounted = q .uncounted;
+    counts = q .counts;
+  }) (λ x y a. a)
 
   sound-clock : (t rows room : ℕ) → eqb (firstOf (clockChecks (s .clock) t rows room)) 0 ≡ true → Sound (passed s t .state)
   unfolding clockChecks
