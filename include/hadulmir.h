@@ -66,9 +66,9 @@ extern "C" {
 typedef char hadulmir_fits_the_target[CHAR_BIT == 8 && sizeof(int) == 4 && (sizeof(void *) == 4 || sizeof(void *) == 8) ? 1 : -1];
 
 /** This version as a number: 10,000 for the first part of its name, 100 for the second, 1 for the third. */
-#define HADULMIR_VERSION 30000
+#define HADULMIR_VERSION 30001
 /** This version as text. */
-#define HADULMIR_VERSION_TEXT "3.0.0"
+#define HADULMIR_VERSION_TEXT "3.0.1"
 
 /** The layout of the image. Versions with the same number here take up each other's images: a host stores it with the image. */
 #define HADULMIR_IMAGE_LAYOUT 2
@@ -224,8 +224,8 @@ enum hadulmir_asked {
  *        8   id                                   8
  *       16   response code                        1
  *
- * Drawn start is start + start draw. Effective end is drawn start + duration + duration draw. Effective start is the later of drawn start
- * and the second after the clock at which the event was first accepted.
+ * Drawn start is start + start draw; IEEE 2030.5 calls it Effective Start Time. Effective start is the later of drawn start and the second
+ * after the clock at which the event was first accepted. Effective end is drawn start + duration + duration draw, of a late event too.
  *
  * Earliest start is the lesser of start and start + randomizeStart, which IEEE 2030.5 calls Earliest Effective Start Time. No draw and no
  * late receipt moves it, so it can lie before the clock. It is never after the effective start.

@@ -1,5 +1,6 @@
--- Effective period.
--- IEEE 2030.5 calls document 01's drawn start "Effective Start Time"; here, as in document 01, an effective start is never before receipt.
+-- Effective period, in the sequence of IEEE 2030.5, 10.2.2.2 (document 02, #103): start, start draw, drawn and effective start, duration, duration draw, effective end.
+-- What the clause calls Effective Start Time is document 01's drawn start, and both count the end from it. An effective start is here, as in document 01,
+-- never before receipt: the clause has no word for it.
 use Prim.Native.Nat.{ℕ, _+_, _-_, _%_, min, max}
 use Rattle.rules.specs.declared.Event.{Event}
 use Rattle.rules.specs.declared.Period.{Period}
@@ -13,17 +14,18 @@ lift b = (b + 32768) % 65536
 abbrev pub plus : ℕ → ℕ → ℕ
 plus n b = n + lift b - 32768
 
--- Effective period, drawn start
+-- Effective period, drawn start. In the clause: Start Time, with the Start Randomization that is applied to it, gives its Effective Start Time
 unfoldable pub drawnStart : Event → ℕ
 drawnStart e = plus (e .start) (e .«start_draw»)
 
--- Effective period, effective end: counted from the drawn start, however late the event came
-unfoldable pub effectiveEnd : Event → ℕ
-effectiveEnd e = plus (drawnStart e + e .duration) (e .«duration_draw»)
-
--- Effective period, effective start: of an event that was first accepted at the receipt clock
+-- Effective period, effective start: of an event that was first accepted at the receipt clock. No term of the clause; a late receipt moves this alone
 unfoldable pub effectiveStart : Event → ℕ → ℕ
 effectiveStart e receipt = max (drawnStart e) (receipt + 1)
+
+-- Effective period, effective end: counted from the drawn start, however late the event came. In the clause: its Effective Start Time, then Duration,
+-- with the Duration Randomization that is applied, gives its Effective End Time
+unfoldable pub effectiveEnd : Event → ℕ
+effectiveEnd e = plus (drawnStart e + e .duration) (e .«duration_draw»)
 
 -- Document 02, #101, what clause 10.2.2.2 calls Earliest Effective Start Time: the lesser of start and start + randomizeStart.
 -- No draw and no receipt clock is in it.

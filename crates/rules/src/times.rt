@@ -116,6 +116,34 @@ impl Event {
         is_out_of_range(self) | (self.duration as u64 + lifted(self.duration_draw) < 32768 + 1)
     }
 
+    // The effective period of an event that is first accepted at a receipt clock, in the sequence of IEEE 2030.5, 10.2.2.2 (document 02, #103). Above each
+    // step stands the clause's term for it; its name is document 01's. The clause says Effective Start Time where document 01 says drawn start.
+    pub fn period(self, receipt: u64) -> Period
+        ensures { λ r. ⌜ r ≡ periodOf self (min receipt lastClock) ⌝ }
+    {
+        // Start Time.
+        let start = self.start as u64;
+        // Start Randomization, as the client applies it: the draw, within the bound randomizeStart.
+        let start_draw = self.start_draw;
+        // Effective Start Time. The end counts from here, however late the event came.
+        let drawn_start = moved(start, start_draw);
+        // No term of the clause: document 01's effective start, not before receipt + 1. A late receipt moves this alone. A receipt is at most the last reading.
+        let effective_start = later(drawn_start, earlier(receipt, Schedule::LAST_CLOCK) + 1);
+        // Duration.
+        let duration = self.duration as u64;
+        // Duration Randomization, as the client applies it: the draw, within the bound randomizeDuration.
+        let duration_draw = self.duration_draw;
+        // Effective End Time: from the clause's Effective Start Time, which is the drawn start.
+        let effective_end = moved(drawn_start + duration, duration_draw);
+        // Earliest Effective Start Time (document 02, #101), no step of the others.
+        let earliest = self.earliest_start();
+        Period {
+            start: effective_start,
+            end: effective_end,
+            earliest: earliest.time,
+        }
+    }
+
     // Effective period, drawn start.
     pub fn drawn_start(self) -> Dated
         ensures { λ r. ⌜ r ≡ dated (drawnStart self) self ⌝ }
@@ -126,13 +154,13 @@ impl Event {
         }
     }
 
-    // Effective period, effective end: from the drawn start.
+    // Effective period, effective end: the same whatever the receipt clock.
     pub fn effective_end(self) -> Dated
         ensures { λ r. ⌜ r ≡ dated (effectiveEnd self) self ⌝ }
     {
-        let start = moved(self.start as u64, self.start_draw);
+        let period = self.period(0);
         Dated {
-            time: moved(start + self.duration as u64, self.duration_draw),
+            time: period.end,
             event: self,
         }
     }
@@ -145,21 +173,6 @@ impl Event {
         Dated {
             time: earlier(start, moved(start, self.randomize_start)),
             event: self,
-        }
-    }
-
-    // Effective period, the whole of it, of an event that is first accepted at a receipt clock. That is at most the last reading.
-    pub fn period(self, receipt: u64) -> Period
-        ensures { λ r. ⌜ r ≡ periodOf self (min receipt lastClock) ⌝ }
-    {
-        let start = self.drawn_start();
-        let end = self.effective_end();
-        let earliest = self.earliest_start();
-        let clock = earlier(receipt, Schedule::LAST_CLOCK);
-        Period {
-            start: later(start.time, clock + 1),
-            end: end.time,
-            earliest: earliest.time,
         }
     }
 }
