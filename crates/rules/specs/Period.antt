@@ -14,7 +14,7 @@ lift b = (b + 32768) % 65536
 abbrev pub plus : ℕ → ℕ → ℕ
 plus n b = n + lift b - 32768
 
--- Effective period, drawn start. In the clause: Start Time, with the Start Randomization that is applied to it, gives its Effective Start Time
+-- Effective period, drawn start: the clause's Effective Start Time, of Start Time and the Start Randomization that is applied, the start draw
 unfoldable pub drawnStart : Event → ℕ
 drawnStart e = plus (e .start) (e .«start_draw»)
 
@@ -22,8 +22,8 @@ drawnStart e = plus (e .start) (e .«start_draw»)
 unfoldable pub effectiveStart : Event → ℕ → ℕ
 effectiveStart e receipt = max (drawnStart e) (receipt + 1)
 
--- Effective period, effective end: counted from the drawn start, however late the event came. In the clause: its Effective Start Time, then Duration,
--- with the Duration Randomization that is applied, gives its Effective End Time
+-- Effective period, effective end: the clause's Effective End Time, of its Effective Start Time, Duration and the Duration Randomization that is applied, the
+-- duration draw. So it is counted from the drawn start, however late the event came
 unfoldable pub effectiveEnd : Event → ℕ
 effectiveEnd e = plus (drawnStart e + e .duration) (e .«duration_draw»)
 

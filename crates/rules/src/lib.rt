@@ -73,7 +73,8 @@ pub struct Event {
     pub duration_draw: u16,
 }
 
-// Effective period. The times that are worked out for an event. Document 02, #101: `earliest` is the Earliest Effective Start Time.
+// Effective period. The times that are worked out for an event: `start` is document 01's effective start, `end` the effective end, `earliest` what document 02, #101,
+// takes from IEEE 2030.5 as Earliest Effective Start Time.
 pub struct Period {
     pub start: u64,
     pub end: u64,

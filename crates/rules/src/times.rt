@@ -127,7 +127,8 @@ impl Event {
         let start_draw = self.start_draw;
         // Effective Start Time. The end counts from here, however late the event came.
         let drawn_start = moved(start, start_draw);
-        // No term of the clause: document 01's effective start, not before receipt + 1. A late receipt moves this alone. A receipt is at most the last reading.
+        // No term of the clause: document 01's effective start, not before receipt + 1. A late receipt moves this alone; one beyond the last reading counts as
+        // that reading.
         let effective_start = later(drawn_start, earlier(receipt, Schedule::LAST_CLOCK) + 1);
         // Duration.
         let duration = self.duration as u64;
@@ -135,7 +136,7 @@ impl Event {
         let duration_draw = self.duration_draw;
         // Effective End Time: from the clause's Effective Start Time, which is the drawn start.
         let effective_end = moved(drawn_start + duration, duration_draw);
-        // Earliest Effective Start Time (document 02, #101), no step of the others.
+        // Earliest Effective Start Time (document 02, #101): beside the sequence, without a draw and without the receipt clock.
         let earliest = self.earliest_start();
         Period {
             start: effective_start,

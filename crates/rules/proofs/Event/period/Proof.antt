@@ -10,6 +10,7 @@ use Rattle.rules.proofs.Event.period.Tie as tie
 abbrev times : ℕ → ℕ → ℕ → Period
 times s e earliest = record { start = s; end = e; earliest = earliest }
 
+-- What `ends` ends in is written out, so that of a fault in the code the refusal names the number that stands for another.
 returns : tie.Need-returns
 unfolding effectiveStart effectiveEnd drawnStart
 returns c =
@@ -19,7 +20,7 @@ returns c =
     let drawn = receipt .before in
     let e = drawn .before .before .args .self in
     let starts = start .later .ensures ∙ ap₂ (λ a b. max a (b + 1)) (drawn .moved .ensures) (receipt .earlier .ensures) in
-    let ends = end .moved2 .ensures ∙ ap (λ t. plus (t + e .duration) (e .«duration_draw»)) (drawn .moved .ensures) in
+    let ends = _∙_ {c = effectiveEnd e} (end .moved2 .ensures) (ap (λ t. plus (t + e .duration) (e .«duration_draw»)) (drawn .moved .ensures)) in
     λ i. times (starts i) (ends i) (c .earliest-start .ensures i .time)
 
 pub period-spec : {M : Type 1} → statement M
