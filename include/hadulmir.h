@@ -6,19 +6,20 @@
  * event, or in again. The part says which event holds which control at each second, settles overlaps by primacy, falls back to a program's
  * default and gives the response codes to be posted. XML, transport, metering and the values of controls stay with the host.
  *
- * The whole state is an image: 2,313 plain bytes that the host owns. The part allocates nothing, keeps nothing between calls, calls
+ * The whole state is an image: 2,697 plain bytes that the host owns. The part allocates nothing, keeps nothing between calls, calls
  * nothing of the host and returns from every call. An image has no pointer in it: it may be copied, stored, sent to another device and
  * taken up there.
  *
  * HOW IT IS USED
  *
- *     static const struct hadulmir_event event = {.id = 1, .program = 0, .controls = 0x1, .created = 100, .start = 5000, .duration = 600};
+ *     struct hadulmir_event event = {.program = 0, .controls = 0x1, .created = 100, .start = 5000, .duration = 600};
  *     uint8_t image[HADULMIR_IMAGE_SIZE], rows[HADULMIR_ROWS_SIZE];
  *     int32_t n, i;
  *
  *     hadulmir_fresh(image, sizeof image);
  *     hadulmir_add_program(image, sizeof image, 0, 1, 0x1);
- *     hadulmir_deliver_event(image, sizeof image, &event);
+ *     if (hadulmir_id_from_text(mrid, strlen(mrid), &event.id))
+ *         hadulmir_deliver_event(image, sizeof image, &event);
  *     ...
  *     n = hadulmir_set_clock(image, sizeof image, now, rows, sizeof rows);
  *     for (i = 0; i < n; i++)
@@ -34,7 +35,8 @@
  *   3. One call at a time uses an image and a lent buffer. Different images may be used at the same time.
  *   4. An image is whole between calls. A copy that is to outlive a loss of power is made between calls, never during one.
  *   5. Rows are given once: the next clock call starts behind them. A host that must not lose any makes the call on a copy of the image, posts
- *      the rows, and then stores the copy, with all that it knows of the ids in it.
+ *      the rows, and then stores the copy.
+ *   6. Where an id is two numbers, the upper half goes first. Exchanged halves are another id.
  *
  * HADULMIR_STACK_SIZE bytes of stack do for every call. Of the C library the archive needs memcpy, memmove and memset at most, by the names
  * that the target's convention has for them.
@@ -46,6 +48,11 @@
  *
  * Every function returns an int32_t. An answer is 0 or more. A refusal is the negative of its number, and a refused call has changed no
  * byte: not the image, not a lent buffer. An accepted call writes the front of a lent buffer only; the bytes behind stay as they were.
+ *
+ * IDS
+ *
+ * The id of an event is its mRID: one unsigned number below 2^128, of which all bits count wherever ids are compared. A call is given it as
+ * two numbers, the upper half first, and writes it as 16 bytes. hadulmir_id_from_text reads the mRID's text, hadulmir_id_at the 16 bytes.
  *
  * TIMES AND MASKS
  *
@@ -66,15 +73,18 @@ extern "C" {
 typedef char hadulmir_fits_the_target[CHAR_BIT == 8 && sizeof(int) == 4 && (sizeof(void *) == 4 || sizeof(void *) == 8) ? 1 : -1];
 
 /** This version as a number: 10,000 for the first part of its name, 100 for the second, 1 for the third. */
-#define HADULMIR_VERSION 30001
+#define HADULMIR_VERSION 40000
 /** This version as text. */
-#define HADULMIR_VERSION_TEXT "3.0.1"
+#define HADULMIR_VERSION_TEXT "4.0.0"
 
-/** The layout of the image. Versions with the same number here take up each other's images: a host stores it with the image. */
-#define HADULMIR_IMAGE_LAYOUT 2
+/**
+ * The layout of the image. Versions with the same number here take up each other's images: a host stores it with the image. An image of an
+ * earlier layout has another length and is refused with -2.
+ */
+#define HADULMIR_IMAGE_LAYOUT 3
 
 /** Bytes of an image. */
-#define HADULMIR_IMAGE_SIZE 2313
+#define HADULMIR_IMAGE_SIZE 2697
 
 /* Where things stand in an image; see THE IMAGE below. */
 #define HADULMIR_CLOCK_AT 0    /**< the clock */
@@ -86,7 +96,7 @@ typedef char hadulmir_fits_the_target[CHAR_BIT == 8 && sizeof(int) == 4 && (size
 #define HADULMIR_PROGRAM_SIZE 6
 
 /** Bytes of a response row. */
-#define HADULMIR_ROW_SIZE 17
+#define HADULMIR_ROW_SIZE 25
 
 /** Rows that one clock call gives at most: two for each held event. */
 #define HADULMIR_ROWS_AT_MOST 96
@@ -95,7 +105,7 @@ typedef char hadulmir_fits_the_target[CHAR_BIT == 8 && sizeof(int) == 4 && (size
 #define HADULMIR_ROWS_SIZE (HADULMIR_ROWS_AT_MOST * HADULMIR_ROW_SIZE)
 
 /** Bytes of an event in an image. */
-#define HADULMIR_ENTRY_SIZE 47
+#define HADULMIR_ENTRY_SIZE 55
 
 /** Bytes of a listed record: the event as it stands in the image, then its earliest start. */
 #define HADULMIR_RECORD_SIZE (HADULMIR_ENTRY_SIZE + 8)
@@ -107,7 +117,10 @@ typedef char hadulmir_fits_the_target[CHAR_BIT == 8 && sizeof(int) == 4 && (size
 #define HADULMIR_RECORDS_SIZE (HADULMIR_EVENTS_AT_MOST * HADULMIR_RECORD_SIZE)
 
 /** Bytes of an id in a buffer. */
-#define HADULMIR_ID_SIZE 8
+#define HADULMIR_ID_SIZE 16
+
+/** Bytes of an id as text: 32 hexadecimal digits and a zero byte. */
+#define HADULMIR_ID_TEXT_SIZE 33
 
 /** Programs have the numbers 0 to 7. */
 #define HADULMIR_PROGRAMS_AT_MOST 8
@@ -126,7 +139,7 @@ typedef char hadulmir_fits_the_target[CHAR_BIT == 8 && sizeof(int) == 4 && (size
  * that of a line of text which is no frame; no function of this header reads lines, so none returns it.
  */
 enum hadulmir_refusal {
-    /** The image is not 2,313 bytes long, or breaks a rule of images (see THE IMAGE below). */
+    /** The image is not 2,697 bytes long, or breaks a rule of images (see THE IMAGE below). */
     HADULMIR_BAD_IMAGE = -2,
     /** The program number is above 7. */
     HADULMIR_PROGRAM_TOO_LARGE = -3,
@@ -193,36 +206,36 @@ enum hadulmir_asked {
  *        0   clock                                8 bytes
  *        8   count of held events                 1
  *        9   program 0 to program 7               6 each:  added (0 or 1) 1, primacy 1, defaults 4
- *       57   event entries, 48 of them           47 each:  as below, the held ones first
+ *       57   event entries, 48 of them           55 each:  as below, the held ones first
  *
  * An event entry:
  *
- *        0   id                                   8
- *        8   program number                       1
- *        9   controls                             4
- *       13   creation time                        4
- *       17   start                                4
- *       21   duration                             4
- *       25   randomizeStart                       2, two's complement
- *       27   randomizeDuration                    2, two's complement
- *       29   start draw                           2, two's complement
- *       31   duration draw                        2, two's complement
- *       33   effective start                      8
- *       41   held mask                            4
- *       45   cancelled (0 or 1)                   1
- *       46   the user's choice                    1, bit 0: out now; bit 1: was in, and bit 2: was out, for a second in which
+ *        0   id                                  16
+ *       16   program number                       1
+ *       17   controls                             4
+ *       21   creation time                        4
+ *       25   start                                4
+ *       29   duration                             4
+ *       33   randomizeStart                       2, two's complement
+ *       35   randomizeDuration                    2, two's complement
+ *       37   start draw                           2, two's complement
+ *       39   duration draw                        2, two's complement
+ *       41   effective start                      8
+ *       49   held mask                            4
+ *       53   cancelled (0 or 1)                   1
+ *       54   the user's choice                    1, bit 0: out now; bit 1: was in, and bit 2: was out, for a second in which
  *                                                 the event held something; bits 3 to 7: 0
  *
  * A record, which a listing gives and no image has:
  *
- *        0   event entry, as in the image        47
- *       47   earliest start                       8
+ *        0   event entry, as in the image        55
+ *       55   earliest start                       8
  *
  * A row:
  *
  *        0   time                                 8
- *        8   id                                   8
- *       16   response code                        1
+ *        8   id                                  16
+ *       24   response code                        1
  *
  * Drawn start is start + start draw; IEEE 2030.5 calls it Effective Start Time. Effective start is the later of drawn start and the second
  * after the clock at which the event was first accepted. Effective end is drawn start + duration + duration draw, of a late event too.
@@ -260,9 +273,9 @@ enum hadulmir_asked {
  */
 
 /**
- * Makes the fresh image: clock 0, no program, no event, which is 2,313 zero bytes. What the buffer held before does not count.
- * Answers 0 and writes all 2,313 bytes.
- * Refuses with -2 if image_len is not 2,313.
+ * Makes the fresh image: clock 0, no program, no event, which is 2,697 zero bytes. What the buffer held before does not count.
+ * Answers 0 and writes all 2,697 bytes.
+ * Refuses with -2 if image_len is not 2,697.
  */
 int32_t hadulmir_fresh(uint8_t *image, uint64_t image_len);
 
@@ -275,16 +288,17 @@ int32_t hadulmir_fresh(uint8_t *image, uint64_t image_len);
 int32_t hadulmir_add_program(uint8_t *image, uint64_t image_len, uint8_t number, uint8_t primacy, uint32_t defaults);
 
 /**
- * Delivers an event. hadulmir_deliver_event below does the same without ten numbers in a row. `id` is the host's own handle for the event.
+ * Delivers an event. hadulmir_deliver_event below does the same without eleven numbers in a row. The id is the event's mRID. At equal primacy
+ * and equal creation time the event with the larger id is better.
  * The last four numbers are signed, in two's complement: give them through hadulmir_signed. The host draws once for an event, at random,
  * between 0 and the randomisation, both included, and gives the same draws whenever it delivers that event again.
  * Answers 1 if the event is new and writes the image; the host posts code 1. Answers 0 if it is held with every field equal, cancelled or not,
  * and leaves the image as it was, with the user's choice. An event is held until the clock reaches its effective end. After that its id is
- * free.
+ * free: with other draws, an event that ended before its start + duration would be new once more.
  * Refuses with -2, -3, -6, -7, -8, -9, -10. The host posts 253 for -7 and 254 for -9; hadulmir_response_for says so.
  */
-int32_t hadulmir_deliver(uint8_t *image, uint64_t image_len, uint64_t id, uint8_t program, uint32_t controls, uint32_t created,
-                         uint32_t start, uint32_t duration, uint16_t randomize_start, uint16_t randomize_duration,
+int32_t hadulmir_deliver(uint8_t *image, uint64_t image_len, uint64_t id_high, uint64_t id_low, uint8_t program, uint32_t controls,
+                         uint32_t created, uint32_t start, uint32_t duration, uint16_t randomize_start, uint16_t randomize_duration,
                          uint16_t start_draw, uint16_t duration_draw);
 
 /**
@@ -293,7 +307,7 @@ int32_t hadulmir_deliver(uint8_t *image, uint64_t image_len, uint64_t id, uint8_
  * Answers 6 and writes the image; the host posts code 6. Answers 0 if it was cancelled before, and leaves the image as it was.
  * Refuses with -2, -11.
  */
-int32_t hadulmir_cancel(uint8_t *image, uint64_t image_len, uint64_t id);
+int32_t hadulmir_cancel(uint8_t *image, uint64_t image_len, uint64_t id_high, uint64_t id_low);
 
 /**
  * The user opts out of a held event, whether or not it has started, holds anything or is cancelled. WHEN A CHOICE COUNTS above says what comes
@@ -302,7 +316,7 @@ int32_t hadulmir_cancel(uint8_t *image, uint64_t image_len, uint64_t id);
  * already, and leaves the image as it was.
  * Refuses with -2, -11.
  */
-int32_t hadulmir_opt_out(uint8_t *image, uint64_t image_len, uint64_t id);
+int32_t hadulmir_opt_out(uint8_t *image, uint64_t image_len, uint64_t id_high, uint64_t id_low);
 
 /**
  * The user opts in to a held event again, whether or not it has started, holds anything or is cancelled.
@@ -310,34 +324,34 @@ int32_t hadulmir_opt_out(uint8_t *image, uint64_t image_len, uint64_t id);
  * already, as with every new event, and leaves the image as it was.
  * Refuses with -2, -11.
  */
-int32_t hadulmir_opt_in(uint8_t *image, uint64_t image_len, uint64_t id);
+int32_t hadulmir_opt_in(uint8_t *image, uint64_t image_len, uint64_t id_high, uint64_t id_low);
 
 /**
  * Sets the clock to `reading` and writes the response rows of all moments after the old reading up to the new one, one behind the other from
  * the front of `rows`. Rows go by time, at one time first the ends (3, 8, 9, 10), then 7, then 2, and each of these three by id: of two ends
  * the smaller id comes first, whichever their codes. A jump over many moments gives the same rows as a call for every second. The same reading
  * again is allowed and gives none.
- * Answers the count of the rows, 0 to 96, and writes the image and 17 bytes of `rows` for each row; the bytes behind stay as they were.
- * Refuses with -2, -12, and with -13 if rows_len is below 17 times the count. HADULMIR_ROWS_SIZE bytes always suffice. After -13 the clock
+ * Answers the count of the rows, 0 to 96, and writes the image and 25 bytes of `rows` for each row; the bytes behind stay as they were.
+ * Refuses with -2, -12, and with -13 if rows_len is below 25 times the count. HADULMIR_ROWS_SIZE bytes always suffice. After -13 the clock
  * stands where it stood: a host calls again with a longer buffer, or with an earlier reading first.
  */
 int32_t hadulmir_set_clock(uint8_t *image, uint64_t image_len, uint64_t reading, uint8_t *rows, uint64_t rows_len);
 
 /**
  * Asks what governs a control now. The image stays as it was.
- * Answers HADULMIR_EVENT (1) if an event holds it that the user is not out of, with its id in the first 8 bytes of `id` (hadulmir_id_at reads
+ * Answers HADULMIR_EVENT (1) if an event holds it that the user is not out of, with its id in the first 16 bytes of `id` (hadulmir_id_at reads
  * it); the bytes behind stay as they were. Else, also if the user is out of the event that holds it, answers HADULMIR_DEFAULT + p (2 to 9) for
  * the program p of best primacy whose defaults have the control, the smaller number if two are equal; else HADULMIR_NOBODY (0). With these two
  * answers `id` stays as it was, and may be of any length.
- * Refuses with -2, -14, and with -13 if the answer is HADULMIR_EVENT and id_len is below 8.
+ * Refuses with -2, -14, and with -13 if the answer is HADULMIR_EVENT and id_len is below 16.
  */
 int32_t hadulmir_ask(const uint8_t *image, uint64_t image_len, uint8_t control, uint8_t *id, uint64_t id_len);
 
 /**
- * Lists the held events by ascending id, one record of 55 bytes behind the other from the front of `records`: the entry of the image, then the
+ * Lists the held events by ascending id, one record of 63 bytes behind the other from the front of `records`: the entry of the image, then the
  * earliest start. An event that the user is out of is listed with the controls that it holds. The image stays as it was.
- * Answers their count, 0 to 48, and writes 55 bytes for each; the bytes behind stay as they were. records_len need be no multiple of 55.
- * Refuses with -2, and with -13 if records_len is below 55 times the count. HADULMIR_RECORDS_SIZE bytes always suffice.
+ * Answers their count, 0 to 48, and writes 63 bytes for each; the bytes behind stay as they were. records_len need be no multiple of 63.
+ * Refuses with -2, and with -13 if records_len is below 63 times the count. HADULMIR_RECORDS_SIZE bytes always suffice.
  */
 int32_t hadulmir_list(const uint8_t *image, uint64_t image_len, uint8_t *records, uint64_t records_len);
 
@@ -412,9 +426,106 @@ static inline uint16_t hadulmir_signed(int32_t value)
     return (uint16_t)((uint32_t)value & 0xFFFFu);
 }
 
+/** The number of `size` bytes, at most 8, most significant first. */
+static inline uint64_t hadulmir_number_at(const uint8_t *bytes, size_t size)
+{
+    uint64_t number = 0;
+    size_t i;
+
+    for (i = 0; i < size; i++)
+        number = (number << 8) | bytes[i];
+    return number;
+}
+
+/** An id: the mRID as one unsigned number, high * 2^64 + low. The provider's number (PEN) is in the lowest 32 bits. */
+struct hadulmir_id {
+    uint64_t high; /**< the upper half, which calls take first */
+    uint64_t low;  /**< the lower half */
+};
+
+/** The id of 16 bytes: of a row, of a record, or of hadulmir_ask where it answered HADULMIR_EVENT. */
+static inline struct hadulmir_id hadulmir_id_at(const uint8_t *bytes)
+{
+    struct hadulmir_id id;
+
+    id.high = hadulmir_number_at(bytes, 8);
+    id.low = hadulmir_number_at(bytes + 8, 8);
+    return id;
+}
+
+/** Writes the 16 bytes of an id, as they stand in an image. */
+static inline void hadulmir_id_put(struct hadulmir_id id, uint8_t *bytes)
+{
+    size_t i;
+
+    for (i = 0; i < 8; i++) {
+        bytes[i] = (uint8_t)(id.high >> (56 - 8 * i) & 0xFFu);
+        bytes[8 + i] = (uint8_t)(id.low >> (56 - 8 * i) & 0xFFu);
+    }
+}
+
+/** Below 0, 0 or above 0, as the first id is less than the second, equal to it or larger. Images, listings, rows and ties go by this order. */
+static inline int hadulmir_id_compare(struct hadulmir_id a, struct hadulmir_id b)
+{
+    if (a.high != b.high)
+        return a.high < b.high ? -1 : 1;
+    return a.low == b.low ? 0 : a.low < b.low ? -1 : 1;
+}
+
+/** What a hexadecimal digit of either case stands for; 16 if the byte is none. */
+static inline unsigned hadulmir_digit_of(char byte)
+{
+    if ('0' <= byte && byte <= '9')
+        return (unsigned)(byte - '0');
+    if ('A' <= byte && byte <= 'F')
+        return (unsigned)(byte - 'A') + 10u;
+    if ('a' <= byte && byte <= 'f')
+        return (unsigned)(byte - 'a') + 10u;
+    return 16;
+}
+
+/**
+ * Reads an mRID's text as IEEE 2030.5 writes it: at most 32 hexadecimal digits of either case, bit 0 on the right, so that a shorter text has
+ * its zeros on the left. `length` counts the digits, and no zero byte is needed behind them. An odd number of digits is read too; the standard
+ * wants a zero before it. White space is no digit: the host's XML reader drops it. The empty text is refused, as all events without an mRID
+ * would be one event then, that of id 0.
+ * Gives 1 and writes `id`; or gives 0 for a text that is none, and leaves `id` as it was.
+ */
+static inline int hadulmir_id_from_text(const char *text, size_t length, struct hadulmir_id *id)
+{
+    struct hadulmir_id read = {0, 0};
+    size_t i;
+
+    if (length < 1 || length > HADULMIR_ID_TEXT_SIZE - 1)
+        return 0;
+    for (i = 0; i < length; i++) {
+        unsigned digit = hadulmir_digit_of(text[i]);
+
+        if (digit > 15)
+            return 0;
+        read.high = (read.high << 4) | (read.low >> 60);
+        read.low = (read.low << 4) | digit;
+    }
+    *id = read;
+    return 1;
+}
+
+/** Writes HADULMIR_ID_TEXT_SIZE bytes, for a log or for the subject of a response: all 32 digits, in upper case, and a zero byte. */
+static inline void hadulmir_id_to_text(struct hadulmir_id id, char *text)
+{
+    static const char digits[] = "0123456789ABCDEF";
+    size_t i;
+
+    for (i = 0; i < 16; i++) {
+        text[i] = digits[id.high >> (60 - 4 * i) & 15u];
+        text[16 + i] = digits[id.low >> (60 - 4 * i) & 15u];
+    }
+    text[32] = '\0';
+}
+
 /** An event as it is delivered. Fields that are left out of an initialiser are 0: no randomisation. */
 struct hadulmir_event {
-    uint64_t id;                /**< the host's own handle for it */
+    struct hadulmir_id id;      /**< its mRID */
     uint8_t program;            /**< the number of its program */
     uint32_t controls;          /**< the mask of its controls, not 0 */
     uint32_t created;           /**< creation time; at equal primacy the later one wins */
@@ -429,20 +540,9 @@ struct hadulmir_event {
 /** hadulmir_deliver with the fields by name and the signed ones as signed numbers. */
 static inline int32_t hadulmir_deliver_event(uint8_t *image, uint64_t image_len, const struct hadulmir_event *event)
 {
-    return hadulmir_deliver(image, image_len, event->id, event->program, event->controls, event->created, event->start, event->duration,
-                            hadulmir_signed(event->randomize_start), hadulmir_signed(event->randomize_duration),
+    return hadulmir_deliver(image, image_len, event->id.high, event->id.low, event->program, event->controls, event->created, event->start,
+                            event->duration, hadulmir_signed(event->randomize_start), hadulmir_signed(event->randomize_duration),
                             hadulmir_signed(event->start_draw), hadulmir_signed(event->duration_draw));
-}
-
-/** The number of `size` bytes, at most 8, most significant first. */
-static inline uint64_t hadulmir_number_at(const uint8_t *bytes, size_t size)
-{
-    uint64_t number = 0;
-    size_t i;
-
-    for (i = 0; i < size; i++)
-        number = (number << 8) | bytes[i];
-    return number;
 }
 
 /** The signed number of 2 bytes. */
@@ -453,17 +553,11 @@ static inline int16_t hadulmir_signed_at(const uint8_t *bytes)
     return (int16_t)(number < 32768 ? number : number - 65536);
 }
 
-/** The id that hadulmir_ask wrote. Only where it answered HADULMIR_EVENT. */
-static inline uint64_t hadulmir_id_at(const uint8_t *id)
-{
-    return hadulmir_number_at(id, HADULMIR_ID_SIZE);
-}
-
 /** A response row. */
 struct hadulmir_row {
-    uint64_t time; /**< when */
-    uint64_t id;   /**< which event */
-    uint8_t code;  /**< gives which response code: 2, 3, 7, 8, 9 or 10 */
+    uint64_t time;         /**< when */
+    struct hadulmir_id id; /**< which event */
+    uint8_t code;          /**< gives which response code: 2, 3, 7, 8, 9 or 10 */
 };
 
 /** Row i of a buffer that hadulmir_set_clock wrote; i is below the count that it answered. */
@@ -473,8 +567,8 @@ static inline struct hadulmir_row hadulmir_row_at(const uint8_t *rows, size_t i)
     struct hadulmir_row row;
 
     row.time = hadulmir_number_at(at, 8);
-    row.id = hadulmir_number_at(at + 8, 8);
-    row.code = at[16];
+    row.id = hadulmir_id_at(at + 8);
+    row.code = at[24];
     return row;
 }
 
@@ -494,22 +588,22 @@ static inline struct hadulmir_entry hadulmir_entry_at(const uint8_t *bytes)
 {
     struct hadulmir_entry entry;
 
-    entry.event.id = hadulmir_number_at(bytes, 8);
-    entry.event.program = bytes[8];
-    entry.event.controls = (uint32_t)hadulmir_number_at(bytes + 9, 4);
-    entry.event.created = (uint32_t)hadulmir_number_at(bytes + 13, 4);
-    entry.event.start = (uint32_t)hadulmir_number_at(bytes + 17, 4);
-    entry.event.duration = (uint32_t)hadulmir_number_at(bytes + 21, 4);
-    entry.event.randomize_start = hadulmir_signed_at(bytes + 25);
-    entry.event.randomize_duration = hadulmir_signed_at(bytes + 27);
-    entry.event.start_draw = hadulmir_signed_at(bytes + 29);
-    entry.event.duration_draw = hadulmir_signed_at(bytes + 31);
-    entry.effective_start = hadulmir_number_at(bytes + 33, 8);
-    entry.held = (uint32_t)hadulmir_number_at(bytes + 41, 4);
-    entry.cancelled = bytes[45];
-    entry.out = (uint8_t)(bytes[46] & 1u);
-    entry.was_in = (uint8_t)(bytes[46] >> 1 & 1u);
-    entry.was_out = (uint8_t)(bytes[46] >> 2 & 1u);
+    entry.event.id = hadulmir_id_at(bytes);
+    entry.event.program = bytes[16];
+    entry.event.controls = (uint32_t)hadulmir_number_at(bytes + 17, 4);
+    entry.event.created = (uint32_t)hadulmir_number_at(bytes + 21, 4);
+    entry.event.start = (uint32_t)hadulmir_number_at(bytes + 25, 4);
+    entry.event.duration = (uint32_t)hadulmir_number_at(bytes + 29, 4);
+    entry.event.randomize_start = hadulmir_signed_at(bytes + 33);
+    entry.event.randomize_duration = hadulmir_signed_at(bytes + 35);
+    entry.event.start_draw = hadulmir_signed_at(bytes + 37);
+    entry.event.duration_draw = hadulmir_signed_at(bytes + 39);
+    entry.effective_start = hadulmir_number_at(bytes + 41, 8);
+    entry.held = (uint32_t)hadulmir_number_at(bytes + 49, 4);
+    entry.cancelled = bytes[53];
+    entry.out = (uint8_t)(bytes[54] & 1u);
+    entry.was_in = (uint8_t)(bytes[54] >> 1 & 1u);
+    entry.was_out = (uint8_t)(bytes[54] >> 2 & 1u);
     return entry;
 }
 

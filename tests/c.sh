@@ -101,15 +101,15 @@ faulty() { $c99 -O2 -DGUARD="$2" -DFAULT="$1" tests/c/face.c tests/c/faults.c $w
 unharmed() { faulty 0 64 && passes face "$out/faulty"; }
 step "without a fault, through the wrapper, face.c passes" unharmed
 found() { faulty "$1" 64 && fails face "$out/faulty"; }
-for fault in 1 2 3 4 5 6 7 8 9 10 11 12 13 14 15 16 17 18 19 20 21 22 23 24; do
+for fault in 1 2 3 4 5 6 7 8 9 10 11 12 13 14 15 16 17 18 19 20 21 22 23 24 25 26 27 28 29; do
     step "fault $fault is found" found $fault
 done
 found_by_valgrind() {
-    faulty 25 0 || return 1
+    faulty 30 0 || return 1
     $memory "$out/faulty" >"$out/said" 2>&1
     [ $? -eq 1 ] && grep -q 'Invalid read' "$out/said"
 }
-command -v valgrind >/dev/null && step "fault 25, a byte read behind the image, is found by valgrind" found_by_valgrind
+command -v valgrind >/dev/null && step "fault 30, a byte read behind the image, is found by valgrind" found_by_valgrind
 
 # --- size and stack
 

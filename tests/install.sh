@@ -47,11 +47,11 @@ step "a stage does not go into the pkg-config file" staged
 
 # by_cmake VERSION: the example by CMake, with a version asked for
 by_cmake() { rm -rf cmake && cmake -S . -B cmake -DCMAKE_PREFIX_PATH="$prefix" -DWANTED="$1" && cmake --build cmake; }
-step "host.c builds by CMake" by_cmake 3.0
+step "host.c builds by CMake" by_cmake 4.0
 step "and writes examples/host.out" says cmake/host
 unfit() { ! by_cmake "$1" && grep -q 'compatible with requested version' "$out/log"; }
-step "CMake refuses a version that is not there" unfit 3.99
-for other in 2.0 4.0; do
+step "CMake refuses a version that is not there" unfit 4.99
+for other in 3.0 5.0; do
     step "CMake refuses another first number, $other" unfit $other
 done
 

@@ -18,13 +18,16 @@
 #define IMAGE HADULMIR_IMAGE_SIZE
 #define ROWS_ROOM HADULMIR_ROWS_SIZE
 #define RECORDS_ROOM HADULMIR_RECORDS_SIZE
+#define ID_ROOM HADULMIR_ID_SIZE
 #define LENT_AT_MOST 4096
 #define TEXT_AT_MOST 8192
 
 /* Places in an image, and in an entry of it; the bits of a choice. */
 #define PROGRAM(n) (HADULMIR_PROGRAMS_AT + HADULMIR_PROGRAM_SIZE * (size_t)(n))
 #define ENTRY(i) (HADULMIR_EVENTS_AT + HADULMIR_ENTRY_SIZE * (size_t)(i))
-enum { EFFECTIVE_START_AT = 33, HELD_AT = 41, CANCELLED_AT = 45, CHOICE_AT = 46 };
+enum { PROGRAM_AT = 16, CONTROLS_AT = 17, CREATED_AT = 21, START_AT = 25, DURATION_AT = 29 };
+enum { RANDOMIZE_START_AT = 33, RANDOMIZE_DURATION_AT = 35, START_DRAW_AT = 37, DURATION_DRAW_AT = 39 };
+enum { EFFECTIVE_START_AT = 41, HELD_AT = 49, CANCELLED_AT = 53, CHOICE_AT = 54 };
 enum { OUT = 1, WAS_IN = 2, WAS_OUT = 4 };
 
 /* COUNTING */
@@ -111,7 +114,7 @@ enum kind { ADD, DELIVER, CANCEL, OPT_OUT, OPT_IN, CLOCK, ASK, LIST };
 /* A call with all that is given to it but the image. `room` is the length of the lent buffer. */
 struct op {
     enum kind kind;
-    uint64_t id; /* of DELIVER, CANCEL, OPT_OUT and OPT_IN; the reading of CLOCK */
+    uint64_t high, id; /* the halves of the id of DELIVER, CANCEL, OPT_OUT and OPT_IN; `id` is the reading of CLOCK too */
     uint8_t number; /* of a program or a control */
     uint8_t primacy;
     uint32_t controls; /* also the defaults of ADD */
@@ -158,6 +161,13 @@ static struct op drawn(struct op op, int32_t randomize_start, int32_t start_draw
     op.start_draw = start_draw;
     op.randomize_duration = randomize_duration;
     op.duration_draw = duration_draw;
+    return op;
+}
+
+/* The same with an upper half of the id, which is 0 else. */
+static struct op wide(uint64_t high, struct op op)
+{
+    op.high = high;
     return op;
 }
 
@@ -221,15 +231,15 @@ static int32_t act(uint8_t *image, size_t len, const struct op *op, uint8_t *len
     case ADD:
         return hadulmir_add_program(image, len, op->number, op->primacy, op->controls);
     case DELIVER:
-        return hadulmir_deliver(image, len, op->id, op->number, op->controls, op->created, op->start, op->duration,
+        return hadulmir_deliver(image, len, op->high, op->id, op->number, op->controls, op->created, op->start, op->duration,
                                 hadulmir_signed(op->randomize_start), hadulmir_signed(op->randomize_duration),
                                 hadulmir_signed(op->start_draw), hadulmir_signed(op->duration_draw));
     case CANCEL:
-        return hadulmir_cancel(image, len, op->id);
+        return hadulmir_cancel(image, len, op->high, op->id);
     case OPT_OUT:
-        return hadulmir_opt_out(image, len, op->id);
+        return hadulmir_opt_out(image, len, op->high, op->id);
     case OPT_IN:
-        return hadulmir_opt_in(image, len, op->id);
+        return hadulmir_opt_in(image, len, op->high, op->id);
     case CLOCK:
         return hadulmir_set_clock(image, len, op->id, lent, op->room);
     case ASK:
@@ -270,8 +280,8 @@ static void put(uint8_t *at, size_t size, uint64_t number)
  */
 static int64_t earliest_start(const uint8_t *entry)
 {
-    int64_t start = entry[17] * INT64_C(16777216) + entry[18] * 65536 + entry[19] * 256 + entry[20];
-    int64_t moved = start + entry[25] * 256 + entry[26] - (entry[25] >= 128 ? 65536 : 0);
+    int64_t start = entry[25] * INT64_C(16777216) + entry[26] * 65536 + entry[27] * 256 + entry[28];
+    int64_t moved = start + entry[33] * 256 + entry[34] - (entry[33] >= 128 ? 65536 : 0);
 
     return moved < start ? moved : start;
 }
@@ -303,7 +313,7 @@ static int turned(const uint8_t *before, const uint8_t *after, const struct op *
 
     memcpy(wanted, before, IMAGE);
     for (i = 0; i < before[HADULMIR_COUNT_AT]; i++)
-        if (hadulmir_number_at(before + ENTRY(i), 8) == op->id)
+        if (hadulmir_number_at(before + ENTRY(i), 8) == op->high && hadulmir_number_at(before + ENTRY(i) + 8, 8) == op->id)
             wanted[ENTRY(i) + CHOICE_AT] ^= OUT;
     return returned == (op->kind == OPT_OUT ? HADULMIR_OPTED_OUT : HADULMIR_OPTED_IN) && memcmp(wanted, after, IMAGE) == 0
            && memcmp(before, after, IMAGE) != 0;
@@ -398,16 +408,17 @@ static void put_event(uint8_t *image, struct op e, uint64_t effective_start, uin
 {
     uint8_t *at = entry_of(image, image[HADULMIR_COUNT_AT]);
 
-    put(at, 8, e.id);
-    at[8] = e.number;
-    put(at + 9, 4, e.controls);
-    put(at + 13, 4, e.created);
-    put(at + 17, 4, e.start);
-    put(at + 21, 4, e.duration);
-    put(at + 25, 2, hadulmir_signed(e.randomize_start));
-    put(at + 27, 2, hadulmir_signed(e.randomize_duration));
-    put(at + 29, 2, hadulmir_signed(e.start_draw));
-    put(at + 31, 2, hadulmir_signed(e.duration_draw));
+    put(at, 8, e.high);
+    put(at + 8, 8, e.id);
+    at[PROGRAM_AT] = e.number;
+    put(at + CONTROLS_AT, 4, e.controls);
+    put(at + CREATED_AT, 4, e.created);
+    put(at + START_AT, 4, e.start);
+    put(at + DURATION_AT, 4, e.duration);
+    put(at + RANDOMIZE_START_AT, 2, hadulmir_signed(e.randomize_start));
+    put(at + RANDOMIZE_DURATION_AT, 2, hadulmir_signed(e.randomize_duration));
+    put(at + START_DRAW_AT, 2, hadulmir_signed(e.start_draw));
+    put(at + DURATION_DRAW_AT, 2, hadulmir_signed(e.duration_draw));
     put(at + EFFECTIVE_START_AT, 8, effective_start);
     put(at + HELD_AT, 4, held);
     at[CANCELLED_AT] = cancelled;
@@ -433,15 +444,27 @@ static void append(char *text, const char *part)
     strcat(text, part);
 }
 
+/* An id as text: a number, before it the upper half and a colon where that is not 0. */
+static const char *id_text(struct hadulmir_id id)
+{
+    static char text[48];
+
+    if (id.high == 0)
+        snprintf(text, sizeof text, "%" PRIu64, id.low);
+    else
+        snprintf(text, sizeof text, "%" PRIu64 ":%" PRIu64, id.high, id.low);
+    return text;
+}
+
 static void rows_text(char *text, int32_t count)
 {
-    char part[64];
+    char part[128];
     int32_t i;
 
     text[0] = '\0';
     for (i = 0; i < count; i++) {
         struct hadulmir_row row = hadulmir_row_at(lent_bytes, (size_t)i);
-        snprintf(part, sizeof part, "%" PRIu64 " %" PRIu64 " %u", row.time, row.id, (unsigned)row.code);
+        snprintf(part, sizeof part, "%" PRIu64 " %s %u", row.time, id_text(row.id), (unsigned)row.code);
         append(text, part);
     }
 }
@@ -490,7 +513,7 @@ static void rows_at(uint8_t *image, uint64_t reading, const char *wanted, int li
 static void record_text(char *text, size_t size, size_t i)
 {
     struct hadulmir_record r = hadulmir_record_at(lent_bytes, i);
-    int used = snprintf(text, size, "%" PRIu64 " %" PRIu64 "-%" PRIu64 " %" PRIX32 "%s%s", r.entry.event.id, r.entry.effective_start,
+    int used = snprintf(text, size, "%s %" PRIu64 "-%" PRIu64 " %" PRIX32 "%s%s", id_text(r.entry.event.id), r.entry.effective_start,
                         hadulmir_effective_end(&r.entry.event), r.entry.held, r.entry.cancelled ? " cancelled" : "",
                         r.entry.out ? " out" : "");
 
@@ -525,26 +548,27 @@ static void listed_at(uint8_t *image, const char *wanted, int line)
 #define LISTED(image, wanted) listed_at((image), (wanted), __LINE__)
 
 /* Asks for a control: an event by its id. Its id buffer is too short, longer, and exact. */
-static void holder_at(uint8_t *image, uint8_t control, uint64_t id, int line)
+static void holder_at(uint8_t *image, uint8_t control, uint64_t high, uint64_t id, int line)
 {
     size_t room;
 
     for (room = 0; room < HADULMIR_ID_SIZE; room++)
         expect_at(image, ask(control, room), HADULMIR_TOO_SHORT, line);
-    for (; room <= 17; room++) {
+    for (; room <= 2 * HADULMIR_ID_SIZE + 1; room++) {
         expect_at(image, ask(control, room), HADULMIR_EVENT, line);
-        check(hadulmir_id_at(lent_bytes) == id, "the holder's id", line);
+        check(hadulmir_number_at(lent_bytes, 8) == high && hadulmir_number_at(lent_bytes + 8, 8) == id, "the holder's id", line);
     }
 }
 
-#define HOLDER(image, control, id) holder_at((image), (control), (id), __LINE__)
+#define HOLDER(image, control, id) holder_at((image), (control), 0, (id), __LINE__)
+#define WIDE_HOLDER(image, control, high, id) holder_at((image), (control), (high), (id), __LINE__)
 
 /* Asks for a control that no event holds: nothing is written, so every length does. */
 static void no_holder_at(uint8_t *image, uint8_t control, int32_t wanted, int line)
 {
     size_t room;
 
-    for (room = 0; room <= 9; room++)
+    for (room = 0; room <= HADULMIR_ID_SIZE + 1; room++)
         expect_at(image, ask(control, room), wanted, line);
 }
 
@@ -637,10 +661,11 @@ static void try_at(const uint8_t *image, struct op op, int32_t wanted, int line)
 static void test_deliver_answers(void)
 {
     uint8_t image[IMAGE], wanted[IMAGE];
-    struct op first = drawn(event(0x0102030405060708u, 7, 0xA1B2C3D4u, 0x11223344, 0x55667788, 0x99AABBCCu), -3600, -2, 3600, 3);
-    struct op smaller = event(5, 0, 1, 0, 3600, 1);
-    struct op larger = event(UINT64_MAX, 0, 0xFFFFFFFFu, UINT32_MAX, UINT32_MAX, UINT32_MAX);
+    struct op first = drawn(event(0x090A0B0C0D0E0F10u, 7, 0xA1B2C3D4u, 0x11223344, 0x55667788, 0x99AABBCCu), -3600, -2, 3600, 3);
+    struct op smaller = event(UINT64_MAX, 0, 1, 0, 3600, 1);
+    struct op larger = wide(UINT64_MAX, event(UINT64_MAX, 0, 0xFFFFFFFFu, UINT32_MAX, UINT32_MAX, UINT32_MAX));
 
+    first.high = 0x0102030405060708u;
     fresh(image);
     EXPECT(image, add(7, 191, 0), 0);
     EXPECT(image, add(0, 0, 0), 0);
@@ -666,7 +691,7 @@ static void test_deliver_answers(void)
     EXPECT(image, first, 0);
     EXPECT(image, smaller, 0);
     EXPECT(image, larger, 0);
-    EXPECT(image, cancel(larger.id), HADULMIR_CANCELLED);
+    EXPECT(image, wide(UINT64_MAX, cancel(UINT64_MAX)), HADULMIR_CANCELLED);
     EXPECT(image, larger, 0);
     begin(image, 4000);
     EXPECT(image, drawn(event(9, 0, 1, 0, 5000, 600), 0, 0, 100, 100), HADULMIR_RECEIVED);
@@ -681,6 +706,19 @@ static void test_deliver_answers(void)
     EXPECT(image, event(0, 0, 2, 0, 6000, 60), HADULMIR_EVENT_EXPIRED);
     EXPECT(image, event(0, 0, 2, 0, 7000, 60), HADULMIR_RECEIVED);
     LISTED(image, "0 7000-7060 0");
+}
+
+/* An event that its draw has ended before start + duration is delivered again: with that draw it comes too late, with another it is new. */
+static void test_deliver_ended(void)
+{
+    uint8_t image[IMAGE];
+
+    begin(image, 4000);
+    EXPECT(image, drawn(event(9, 0, 1, 0, 5000, 600), 0, 0, -100, -100), HADULMIR_RECEIVED);
+    ROWS(image, 5550, "5000 9 2; 5500 9 3");
+    EXPECT(image, drawn(event(9, 0, 1, 0, 5000, 600), 0, 0, -100, -100), HADULMIR_EVENT_EXPIRED);
+    EXPECT(image, drawn(event(9, 0, 1, 0, 5000, 600), 0, 0, -100, -20), HADULMIR_RECEIVED);
+    ROWS(image, 5600, "5551 9 2; 5580 9 3");
 }
 
 static void test_deliver_refusals(void)
@@ -790,6 +828,9 @@ static void test_cancel(void)
     EXPECT(image, cancel(0), HADULMIR_NOT_HELD);
     EXPECT(image, cancel(3), HADULMIR_NOT_HELD);
     EXPECT(image, cancel(UINT64_MAX), HADULMIR_NOT_HELD);
+    EXPECT(image, wide(1, cancel(1)), HADULMIR_NOT_HELD);
+    EXPECT(image, wide(UINT64_C(1) << 63, cancel(2)), HADULMIR_NOT_HELD);
+    EXPECT(image, wide(4, cancel(0)), HADULMIR_NOT_HELD);
 
     /* Before its start: it never holds and gives no row. */
     EXPECT(image, cancel(2), HADULMIR_CANCELLED);
@@ -911,7 +952,7 @@ static void test_ask(void)
     for (c = 0; c < 32; c++)
         NONE(image, (uint8_t)c);
     for (c = 32; c < 256; c++) {
-        EXPECT(image, ask((uint8_t)c, 8), HADULMIR_CONTROL_TOO_LARGE);
+        EXPECT(image, ask((uint8_t)c, ID_ROOM), HADULMIR_CONTROL_TOO_LARGE);
         EXPECT(image, ask((uint8_t)c, 0), HADULMIR_CONTROL_TOO_LARGE);
     }
 
@@ -935,14 +976,14 @@ static void test_ask(void)
 
     /* A holder before a default, whatever the primacies; none before its start and after its end. 14 before 13. */
     EXPECT(image, set_clock(4000, 0), 0);
-    EXPECT(image, event(UINT64_C(0xFEDCBA9876543210), 2, 0x80000000u, 100, 5000, 600), HADULMIR_RECEIVED);
+    EXPECT(image, wide(UINT64_C(0x0123456789ABCDEF), event(UINT64_C(0xFEDCBA9876543210), 2, 0x80000000u, 100, 5000, 600)), HADULMIR_RECEIVED);
     FALLS_BACK(image, 31, 7);
-    ROWS(image, 5000, "5000 18364758544493064720 2");
-    HOLDER(image, 31, UINT64_C(0xFEDCBA9876543210));
-    EXPECT(image, ask(32, 7), HADULMIR_CONTROL_TOO_LARGE);
+    ROWS(image, 5000, "5000 81985529216486895:18364758544493064720 2");
+    WIDE_HOLDER(image, 31, UINT64_C(0x0123456789ABCDEF), UINT64_C(0xFEDCBA9876543210));
+    EXPECT(image, ask(32, ID_ROOM - 1), HADULMIR_CONTROL_TOO_LARGE);
     FALLS_BACK(image, 0, 3);
     NONE(image, 30);
-    ROWS(image, 5600, "5600 18364758544493064720 3");
+    ROWS(image, 5600, "5600 81985529216486895:18364758544493064720 3");
     FALLS_BACK(image, 31, 7);
 }
 
@@ -1044,7 +1085,8 @@ static void test_rooms(void)
     for (i = 1; i <= HADULMIR_EVENTS_AT_MOST; i++) {
         int32_t bound = i % 2 == 0 ? 7 * (int32_t)i : -7 * (int32_t)i;
 
-        EXPECT(image, drawn(event(UINT64_MAX / i, 0, 1, 0, 5000 + (uint32_t)i, 5), bound, bound / 2, 0, 0), HADULMIR_RECEIVED);
+        EXPECT(image, wide(UINT64_MAX % i, drawn(event(UINT64_MAX / i, 0, 1, 0, 5000 + (uint32_t)i, 5), bound, bound / 2, 0, 0)),
+               HADULMIR_RECEIVED);
         EXPECT(image, list(HADULMIR_ENTRY_SIZE * i), HADULMIR_TOO_SHORT);
         EXPECT(image, list((HADULMIR_RECORD_SIZE - 1) * i), HADULMIR_TOO_SHORT);
         EXPECT(image, list(HADULMIR_RECORD_SIZE * i - 1), HADULMIR_TOO_SHORT);
@@ -1224,7 +1266,7 @@ static uint8_t choice_of(const uint8_t *image, uint64_t id)
     size_t i;
 
     for (i = 0; i < hadulmir_count_of(image); i++)
-        if (hadulmir_entry_of(image, i).event.id == id)
+        if (hadulmir_entry_of(image, i).event.id.high == 0 && hadulmir_entry_of(image, i).event.id.low == id)
             return image[ENTRY(i) + CHOICE_AT];
     return 255;
 }
@@ -1264,6 +1306,8 @@ static void test_choice_answers(void)
     EXPECT(image, event(8, 0, 2, 50, 5100, 400), HADULMIR_RECEIVED);
     EXPECT(image, opt_out(UINT64_MAX), HADULMIR_NOT_HELD);
     EXPECT(image, opt_in(UINT64_C(4) << 32), HADULMIR_NOT_HELD);
+    EXPECT(image, wide(2, opt_out(0)), HADULMIR_NOT_HELD);
+    EXPECT(image, wide(2, opt_in(2)), HADULMIR_NOT_HELD);
     BY_TURNS(image, "2468");
     ROWS(image, 5000, "5000 2 2; 5000 4 2");
     BY_TURNS(image, "2468");
@@ -1524,6 +1568,169 @@ static void test_choice_full(void)
         CHECK(hadulmir_row_at(lent_bytes, (size_t)i).code == (i % 2 == 0 ? HADULMIR_STARTED : HADULMIR_NOT_PARTICIPATED));
 }
 
+/* IDS OF 128 BITS */
+
+#define TOP (UINT64_C(1) << 63)
+#define IDS 18
+
+/* By size: ids that agree in one half and differ in the other, ids with their halves exchanged, and both sides of the top bit of a half. */
+static const struct hadulmir_id ids[IDS] = {
+    {0, 0}, {0, 1}, {0, 2}, {0, TOP - 1}, {0, TOP}, {0, UINT64_MAX}, {1, 0}, {1, 1}, {1, 2}, {1, UINT64_MAX}, {2, 0}, {2, 1},
+    {TOP - 1, UINT64_MAX}, {TOP, 0}, {TOP, 1}, {UINT64_MAX, 0}, {UINT64_MAX, TOP}, {UINT64_MAX, UINT64_MAX}};
+
+/* A call with the id of this place. */
+static struct op of_id(size_t i, struct op op)
+{
+    op.high = ids[i].high;
+    op.id = ids[i].low;
+    return op;
+}
+
+/* Appends a text that has an id in it: the format has one %s. */
+static void append_with_id(char *text, const char *format, size_t i)
+{
+    char part[128];
+
+    snprintf(part, sizeof part, format, id_text(ids[i]));
+    append(text, part);
+}
+
+/* Two events of equal rank but for their ids, delivered in this order: both are held, and the larger id is better, all of its bits counted. */
+static void tie(size_t first, size_t second)
+{
+    const size_t less = first < second ? first : second, more = first < second ? second : first;
+    const struct op e = event(0, 0, 1, 100, 5000, 600);
+    char rows[256] = "", records[256] = "";
+    uint8_t image[IMAGE];
+
+    append_with_id(rows, "5000 %s 7", less);
+    append_with_id(rows, "5000 %s 2", more);
+    begin(image, 4000);
+    EXPECT(image, of_id(first, e), HADULMIR_RECEIVED);
+    EXPECT(image, of_id(second, e), HADULMIR_RECEIVED);
+    EXPECT(image, of_id(first, e), 0);
+    EXPECT(image, of_id(second, e), 0);
+    EXPECT(image, of_id(second, event(0, 0, 1, 100, 5000, 601)), HADULMIR_EVENT_DIFFERS);
+    ROWS(image, 5100, rows);
+    WIDE_HOLDER(image, 0, ids[more].high, ids[more].low);
+
+    /* What is done to one leaves the other. */
+    EXPECT(image, of_id(less, cancel(0)), HADULMIR_CANCELLED);
+    EXPECT(image, of_id(more, opt_out(0)), HADULMIR_OPTED_OUT);
+    append_with_id(records, "%s 5000-5600 0 cancelled", less);
+    append_with_id(records, "%s 5000-5600 1 out", more);
+    LISTED(image, records);
+    EXPECT(image, of_id(more, opt_in(0)), HADULMIR_OPTED_IN);
+    EXPECT(image, of_id(less, opt_in(0)), 0);
+    rows[0] = '\0';
+    append_with_id(rows, "5600 %s 3", more);
+    ROWS(image, 6000, rows);
+}
+
+static void test_id_ties(void)
+{
+    size_t i, j;
+
+    for (i = 0; i < IDS; i++)
+        for (j = 0; j < IDS; j++)
+            if (i != j)
+                tie(i, j);
+}
+
+/* All of them, each on a control of its own, delivered from place `from` on in steps of 5, which come to all; then one that is better. */
+static void deliver_ids(uint8_t *image, size_t from)
+{
+    size_t n, i;
+
+    begin(image, 4000);
+    for (n = 0; n < IDS; n++) {
+        i = (from + 5 * n) % IDS;
+        EXPECT(image, of_id(i, event(0, 0, UINT32_C(1) << i, 100, 5000, i % 2 == 0 ? 200 : 600)), HADULMIR_RECEIVED);
+    }
+    EXPECT(image, wide(1, event(3, 0, 0xFFFFFFFFu, 200, 5300, 100)), HADULMIR_RECEIVED);
+}
+
+/* Image, rows of each code and listing go by id, whatever the order of arrival. */
+static void test_id_order(void)
+{
+    static char rows[TEXT_AT_MOST], records[TEXT_AT_MOST];
+    uint8_t image[IMAGE], other[IMAGE];
+    size_t i;
+
+    rows[0] = records[0] = '\0';
+    deliver_ids(image, 0);
+    for (i = 1; i < IDS; i++) {
+        deliver_ids(other, i);
+        CHECK(same(image, other));
+    }
+    for (i = 0; i < IDS; i++)
+        append_with_id(rows, "5000 %s 2", i);
+    for (i = 0; i < IDS; i += 2)
+        append_with_id(rows, "5200 %s 3", i);
+    ROWS(image, 5250, rows);
+    for (i = 1; i < IDS; i += 2) {
+        char part[128];
+
+        if (i == 9)
+            append(records, "1:3 5300-5400 0");
+        snprintf(part, sizeof part, "%s 5000-5600 %lX", id_text(ids[i]), 1ul << i);
+        append(records, part);
+    }
+    LISTED(image, records);
+    for (i = 1; i < IDS; i += 2)
+        WIDE_HOLDER(image, (uint8_t)i, ids[i].high, ids[i].low);
+    rows[0] = '\0';
+    for (i = 1; i < IDS; i += 2)
+        append_with_id(rows, "5300 %s 7", i);
+    append(rows, "5300 1:3 2; 5400 1:3 3");
+    ROWS(image, 6000, rows);
+}
+
+/* Every second one is held: a call that names another is refused, and one that names a held one acts on it alone. */
+static void test_id_named(void)
+{
+    uint8_t image[IMAGE], wanted[IMAGE];
+    size_t i;
+
+    begin(image, 4000);
+    for (i = 0; i < IDS; i += 2)
+        EXPECT(image, of_id(i, event(0, 0, UINT32_C(1) << i, 100, 5000, 600)), HADULMIR_RECEIVED);
+    for (i = 0; i < IDS; i++) {
+        EXPECT(image, of_id(i, opt_in(0)), i % 2 == 0 ? 0 : HADULMIR_NOT_HELD);
+        EXPECT(image, of_id(i, opt_out(0)), i % 2 == 0 ? HADULMIR_OPTED_OUT : HADULMIR_NOT_HELD);
+    }
+    for (i = 0; i < IDS; i++) {
+        memcpy(wanted, image, IMAGE);
+        if (i % 2 == 0)
+            entry_of(wanted, i / 2)[CANCELLED_AT] = 1;
+        EXPECT(image, of_id(i, cancel(0)), i % 2 == 0 ? HADULMIR_CANCELLED : HADULMIR_NOT_HELD);
+        CHECK(same(image, wanted));
+        EXPECT(image, of_id(i, opt_in(0)), i % 2 == 0 ? HADULMIR_OPTED_IN : HADULMIR_NOT_HELD);
+    }
+    for (i = 1; i < IDS; i += 2)
+        EXPECT(image, of_id(i, event(0, 0, 1, 100, 5000, 600)), HADULMIR_RECEIVED);
+    CHECK(hadulmir_count_of(image) == IDS);
+    for (i = 0; i < IDS; i++)
+        CHECK(hadulmir_id_compare(hadulmir_entry_of(image, i).event.id, ids[i]) == 0);
+}
+
+/* An id that stands twice in an image, or before a smaller one, breaks it; the other way round it does not. */
+static void test_id_images(void)
+{
+    const struct op e = event(0, 0, 1, 100, 5000, 600);
+    uint8_t image[IMAGE];
+    size_t i, j;
+
+    for (i = 0; i < IDS; i++)
+        for (j = 0; j < IDS; j++) {
+            blank_image(image, 4000);
+            put_program(image, 0, 1, 0);
+            put_event(image, of_id(i, e), 5000, 0, 0, 0);
+            put_event(image, of_id(j, e), 5000, 0, 0, 0);
+            EXPECT(image, list(RECORDS_ROOM), i < j ? 2 : HADULMIR_BAD_IMAGE);
+        }
+}
+
 /* IMAGES MADE BY HAND */
 
 /* No list of calls leads to these images, yet they keep every rule; the rules run on from them. */
@@ -1630,7 +1837,7 @@ static void all_refuse_at(const uint8_t *image, size_t len, int line)
 {
     const struct op ops[] = {
         add(6, 1, 0), add(255, 3, 0), event(77, 0, 4, 0, 9000, 9), event(10, 9, 0, 0, 0, 0), cancel(10), cancel(1), opt_out(10), opt_out(1),
-        opt_in(10), opt_in(1), set_clock(5200, ROWS_ROOM), set_clock(0, 0), ask(0, 8), ask(99, 0), list(RECORDS_ROOM), list(0)};
+        opt_in(10), opt_in(1), set_clock(5200, ROWS_ROOM), set_clock(0, 0), ask(0, ID_ROOM), ask(99, 0), list(RECORDS_ROOM), list(0)};
     uint8_t copy[2 * IMAGE];
     size_t i;
 
@@ -1680,14 +1887,14 @@ static void unbroken_at(size_t at, size_t size, uint64_t number, int line)
 
 static void test_broken(void)
 {
-    static const size_t lengths[] = {0, 1, HADULMIR_COUNT_AT, HADULMIR_PROGRAMS_AT, ENTRY(0), ENTRY(1), IMAGE - HADULMIR_EVENTS_AT_MOST,
+    static const size_t lengths[] = {0, 1, HADULMIR_COUNT_AT, HADULMIR_PROGRAMS_AT, ENTRY(0), ENTRY(1), IMAGE - 8 * HADULMIR_EVENTS_AT_MOST,
                                      IMAGE - 1, IMAGE + 1, 2 * IMAGE};
     uint8_t image[IMAGE], other[2 * IMAGE];
     size_t i;
 
     sound_image(image);
     EXPECT(image, list(3 * HADULMIR_RECORD_SIZE), 3);
-    EXPECT(image, ask(0, 8), HADULMIR_EVENT);
+    EXPECT(image, ask(0, ID_ROOM), HADULMIR_EVENT);
 
     /* length */
     memset(other, 0, sizeof other);
@@ -1731,44 +1938,49 @@ static void test_broken(void)
     BREAKS(PROGRAM(2) + 1, 1, 255);
     KEEPS(PROGRAM(2) + 1, 1, 0);
 
-    /* ids ascending */
-    BREAKS(ENTRY(1), 8, 10);
-    BREAKS(ENTRY(1), 8, 9);
-    BREAKS(ENTRY(1), 8, 30);
-    BREAKS(ENTRY(2), 8, 0);
-    BREAKS(ENTRY(0), 8, UINT64_MAX);
-    KEEPS(ENTRY(1), 8, 11);
+    /* ids ascending, as unsigned numbers of 16 bytes */
+    BREAKS(ENTRY(1) + 8, 8, 10);
+    BREAKS(ENTRY(1) + 8, 8, 9);
+    BREAKS(ENTRY(1) + 8, 8, 30);
+    BREAKS(ENTRY(2) + 8, 8, 0);
+    BREAKS(ENTRY(0) + 8, 8, UINT64_MAX);
+    KEEPS(ENTRY(1) + 8, 8, 11);
+    KEEPS(ENTRY(2) + 8, 8, UINT64_MAX);
+    BREAKS(ENTRY(0), 8, 1);
+    BREAKS(ENTRY(1), 8, UINT64_C(1) << 63);
+    KEEPS(ENTRY(2), 8, 1);
+    KEEPS(ENTRY(2), 8, UINT64_C(1) << 63);
     KEEPS(ENTRY(2), 8, UINT64_MAX);
 
     /* 3 and 6 */
-    BREAKS(ENTRY(0) + 8, 1, 8);
-    BREAKS(ENTRY(2) + 8, 1, 255);
-    BREAKS(ENTRY(0) + 8, 1, 1);
-    BREAKS(ENTRY(2) + 8, 1, 7);
-    KEEPS(ENTRY(0) + 8, 1, 2);
+    BREAKS(ENTRY(0) + PROGRAM_AT, 1, 8);
+    BREAKS(ENTRY(2) + PROGRAM_AT, 1, 255);
+    BREAKS(ENTRY(0) + PROGRAM_AT, 1, 1);
+    BREAKS(ENTRY(2) + PROGRAM_AT, 1, 7);
+    KEEPS(ENTRY(0) + PROGRAM_AT, 1, 2);
 
     /* 7 */
-    BREAKS(ENTRY(2) + 9, 4, 0);
-    BREAKS(ENTRY(2) + 17, 4, 3599);
-    BREAKS(ENTRY(2) + 21, 4, 0);
-    BREAKS(ENTRY(2) + 25, 2, 3601);
-    KEEPS(ENTRY(2) + 25, 2, 3600);
-    BREAKS(ENTRY(2) + 25, 2, hadulmir_signed(-3601));
-    KEEPS(ENTRY(2) + 25, 2, hadulmir_signed(-3600));
-    BREAKS(ENTRY(2) + 27, 2, 3601);
-    BREAKS(ENTRY(2) + 27, 2, hadulmir_signed(-3601));
-    BREAKS(ENTRY(2) + 27, 2, 0x8000);
-    BREAKS(ENTRY(2) + 29, 2, hadulmir_signed(-1));
-    BREAKS(ENTRY(0) + 29, 2, 1);
-    BREAKS(ENTRY(2) + 31, 2, 1);
-    BREAKS(ENTRY(2) + 31, 2, hadulmir_signed(-1));
-    BREAKS(ENTRY(0) + 31, 2, 101);
-    KEEPS(ENTRY(0) + 31, 2, 100);
+    BREAKS(ENTRY(2) + CONTROLS_AT, 4, 0);
+    BREAKS(ENTRY(2) + START_AT, 4, 3599);
+    BREAKS(ENTRY(2) + DURATION_AT, 4, 0);
+    BREAKS(ENTRY(2) + RANDOMIZE_START_AT, 2, 3601);
+    KEEPS(ENTRY(2) + RANDOMIZE_START_AT, 2, 3600);
+    BREAKS(ENTRY(2) + RANDOMIZE_START_AT, 2, hadulmir_signed(-3601));
+    KEEPS(ENTRY(2) + RANDOMIZE_START_AT, 2, hadulmir_signed(-3600));
+    BREAKS(ENTRY(2) + RANDOMIZE_DURATION_AT, 2, 3601);
+    BREAKS(ENTRY(2) + RANDOMIZE_DURATION_AT, 2, hadulmir_signed(-3601));
+    BREAKS(ENTRY(2) + RANDOMIZE_DURATION_AT, 2, 0x8000);
+    BREAKS(ENTRY(2) + START_DRAW_AT, 2, hadulmir_signed(-1));
+    BREAKS(ENTRY(0) + START_DRAW_AT, 2, 1);
+    BREAKS(ENTRY(2) + DURATION_DRAW_AT, 2, 1);
+    BREAKS(ENTRY(2) + DURATION_DRAW_AT, 2, hadulmir_signed(-1));
+    BREAKS(ENTRY(0) + DURATION_DRAW_AT, 2, 101);
+    KEEPS(ENTRY(0) + DURATION_DRAW_AT, 2, 100);
     blank_image(image, 4000);
     put_program(image, 0, 1, 0);
     put_event(image, drawn(event(1, 0, 1, 0, 5000, 10), 0, 0, -10, -9), 5000, 0, 0, 0);
     EXPECT(image, list(HADULMIR_RECORD_SIZE), 1);
-    put(entry_of(image, 0) + 31, 2, hadulmir_signed(-10));
+    put(entry_of(image, 0) + DURATION_DRAW_AT, 2, hadulmir_signed(-10));
     all_refuse_at(image, IMAGE, __LINE__);
 
     /* effective start: not before the drawn start, before the effective end */
@@ -1888,7 +2100,6 @@ static int keeps_rules(const uint8_t *image)
 {
     uint8_t count = image[HADULMIR_COUNT_AT];
     uint32_t taken = 0;
-    uint64_t last = 0;
     size_t i;
 
     if (hadulmir_clock_of(image) > HADULMIR_CLOCK_AT_MOST || count > HADULMIR_EVENTS_AT_MOST)
@@ -1907,11 +2118,12 @@ static int keeps_rules(const uint8_t *image)
     for (i = 0; i < count; i++) {
         struct hadulmir_entry e = hadulmir_entry_of(image, i);
 
-        if ((i > 0 && e.event.id <= last) || !event_keeps_rules(image, &e) || (e.held & taken) != 0)
+        if (i > 0 && memcmp(image + ENTRY(i - 1), image + ENTRY(i), HADULMIR_ID_SIZE) >= 0)
+            return 0;
+        if (!event_keeps_rules(image, &e) || (e.held & taken) != 0)
             return 0;
         if (!choice_keeps_rules(image[ENTRY(i) + CHOICE_AT], hadulmir_clock_of(image) >= e.effective_start, e.held))
             return 0;
-        last = e.event.id;
         taken |= e.held;
     }
     return 1;
@@ -1931,7 +2143,8 @@ static void change_a_number(uint8_t *image)
 {
     static const struct {
         uint8_t at, size;
-    } fields[] = {{0, 8}, {8, 1}, {9, 4}, {13, 4}, {17, 4}, {21, 4}, {25, 2}, {27, 2}, {29, 2}, {31, 2},
+    } fields[] = {{0, 8}, {8, 8}, {PROGRAM_AT, 1}, {CONTROLS_AT, 4}, {CREATED_AT, 4}, {START_AT, 4}, {DURATION_AT, 4},
+                  {RANDOMIZE_START_AT, 2}, {RANDOMIZE_DURATION_AT, 2}, {START_DRAW_AT, 2}, {DURATION_DRAW_AT, 2},
                   {EFFECTIVE_START_AT, 8}, {HELD_AT, 4}, {CANCELLED_AT, 1}, {CHOICE_AT, 1}};
     uint32_t f = next_random() % (sizeof fields / sizeof fields[0]);
     uint8_t count = image[HADULMIR_COUNT_AT];
@@ -1994,8 +2207,8 @@ static void test_changed(void)
     EXPECT(base[3], set_clock(5120, ROWS_ROOM), 4);
     for (i = 0; i < 6000; i++) {
         const struct op ops[] = {add((uint8_t)(i % 8), 1, 1), event(i % 50, 0, 1 + i % 7, i, 5000 + i, 50), cancel(i % 30), opt_out(i % 30),
-                                 opt_in(i % 30), set_clock(hadulmir_clock_of(base[i % 4]) + i % 500, ROWS_ROOM), ask((uint8_t)(i % 32), 8),
-                                 list(RECORDS_ROOM)};
+                                 opt_in(i % 30), set_clock(hadulmir_clock_of(base[i % 4]) + i % 500, ROWS_ROOM),
+                                 ask((uint8_t)(i % 32), ID_ROOM), list(RECORDS_ROOM)};
         int sound, all = 1;
 
         memcpy(image, base[i % 4], IMAGE);
@@ -2023,12 +2236,13 @@ static void test_changed(void)
 static void day(struct op *ops)
 {
     const struct op list_of_calls[OPS] = {
-        add(0, 1, 1), add(1, 0, 2), ask(0, 8), set_clock(4000, ROWS_ROOM), event(1, 0, 1, 100, 5000, 600), event(2, 0, 1, 200, 5300, 60),
-        event(3, 1, 3, 50, 5350, 100), drawn(event(4, 0, 0x80000000u, 50, 5000, 500), -300, -17, 100, 9), event(1, 0, 1, 100, 5000, 600),
-        opt_out(3), opt_out(9), list(RECORDS_ROOM), set_clock(5000, ROWS_ROOM), ask(0, 8), opt_out(4), ask(31, 8), opt_out(4), cancel(9),
-        set_clock(5310, 2 * HADULMIR_ROW_SIZE - 1), set_clock(5310, 2 * HADULMIR_ROW_SIZE), ask(0, 8),
-        list(4 * HADULMIR_RECORD_SIZE - 1), list(4 * HADULMIR_RECORD_SIZE), cancel(4), cancel(4), set_clock(5360, ROWS_ROOM),
-        event(5, 0, 0, 0, 0, 0), event(6, 1, 4, 1, 5300, 200), ask(1, 8), opt_in(3), ask(1, 8), set_clock(7000, ROWS_ROOM), list(0)};
+        add(0, 1, 1), add(1, 0, 2), ask(0, ID_ROOM), set_clock(4000, ROWS_ROOM), event(1, 0, 1, 100, 5000, 600),
+        event(2, 0, 1, 200, 5300, 60), event(3, 1, 3, 50, 5350, 100), drawn(event(4, 0, 0x80000000u, 50, 5000, 500), -300, -17, 100, 9),
+        event(1, 0, 1, 100, 5000, 600), opt_out(3), opt_out(9), list(RECORDS_ROOM), set_clock(5000, ROWS_ROOM), ask(0, ID_ROOM), opt_out(4),
+        ask(31, ID_ROOM), opt_out(4), cancel(9), set_clock(5310, 2 * HADULMIR_ROW_SIZE - 1), set_clock(5310, 2 * HADULMIR_ROW_SIZE),
+        ask(0, ID_ROOM), list(4 * HADULMIR_RECORD_SIZE - 1), list(4 * HADULMIR_RECORD_SIZE), cancel(4), cancel(4),
+        set_clock(5360, ROWS_ROOM), event(5, 0, 0, 0, 0, 0), event(6, 1, 4, 1, 5300, 200), ask(1, ID_ROOM), opt_in(3), ask(1, ID_ROOM),
+        set_clock(7000, ROWS_ROOM), list(0)};
 
     memcpy(ops, list_of_calls, sizeof list_of_calls);
 }
@@ -2118,7 +2332,7 @@ static void move_records(uint8_t *to, const uint8_t *from)
             continue;
         CHECK(hadulmir_deliver_event(to, IMAGE, &e.event) == HADULMIR_RECEIVED);
         if (e.was_out || (e.out && !e.was_in))
-            CHECK(hadulmir_opt_out(to, IMAGE, e.event.id) == HADULMIR_OPTED_OUT);
+            CHECK(hadulmir_opt_out(to, IMAGE, e.event.id.high, e.event.id.low) == HADULMIR_OPTED_OUT);
     }
 }
 
@@ -2144,8 +2358,10 @@ static void move_mixed(uint8_t *to, const uint8_t *from)
     size_t i;
 
     while ((i = next_mixed(from, done)) < hadulmir_count_of(from)) {
-        move_clock(to, hadulmir_entry_of(from, i).effective_start);
-        CHECK(hadulmir_opt_in(to, IMAGE, hadulmir_entry_of(from, i).event.id) == HADULMIR_OPTED_IN);
+        struct hadulmir_entry e = hadulmir_entry_of(from, i);
+
+        move_clock(to, e.effective_start);
+        CHECK(hadulmir_opt_in(to, IMAGE, e.event.id.high, e.event.id.low) == HADULMIR_OPTED_IN);
         done |= UINT64_C(1) << i;
     }
 }
@@ -2163,7 +2379,7 @@ static void move_over(uint8_t *to, const uint8_t *from)
         struct hadulmir_entry e = hadulmir_entry_of(from, i);
 
         if (!e.cancelled)
-            CHECK((e.out ? hadulmir_opt_out : hadulmir_opt_in)(to, IMAGE, e.event.id) >= 0);
+            CHECK((e.out ? hadulmir_opt_out : hadulmir_opt_in)(to, IMAGE, e.event.id.high, e.event.id.low) >= 0);
     }
 }
 
@@ -2230,12 +2446,12 @@ static void test_names(void)
 {
     char version[16];
 
-    CHECK(HADULMIR_IMAGE_SIZE == 2313 && HADULMIR_ROW_SIZE == 17 && HADULMIR_ROWS_AT_MOST == 96 && HADULMIR_ROWS_SIZE == 1632);
-    CHECK(HADULMIR_ENTRY_SIZE == 47 && HADULMIR_RECORD_SIZE == 55 && HADULMIR_EVENTS_AT_MOST == 48 && HADULMIR_RECORDS_SIZE == 2640);
-    CHECK(HADULMIR_ID_SIZE == 8 && HADULMIR_PROGRAMS_AT_MOST == 8 && HADULMIR_CONTROLS_AT_MOST == 32);
+    CHECK(HADULMIR_IMAGE_SIZE == 2697 && HADULMIR_ROW_SIZE == 25 && HADULMIR_ROWS_AT_MOST == 96 && HADULMIR_ROWS_SIZE == 2400);
+    CHECK(HADULMIR_ENTRY_SIZE == 55 && HADULMIR_RECORD_SIZE == 63 && HADULMIR_EVENTS_AT_MOST == 48 && HADULMIR_RECORDS_SIZE == 3024);
+    CHECK(HADULMIR_ID_SIZE == 16 && HADULMIR_ID_TEXT_SIZE == 33 && HADULMIR_PROGRAMS_AT_MOST == 8 && HADULMIR_CONTROLS_AT_MOST == 32);
     CHECK(HADULMIR_CLOCK_AT_MOST == UINT64_C(9000000000));
     CHECK(HADULMIR_CLOCK_AT == 0 && HADULMIR_COUNT_AT == 8 && HADULMIR_PROGRAMS_AT == 9 && HADULMIR_PROGRAM_SIZE == 6);
-    CHECK(HADULMIR_EVENTS_AT == 57 && HADULMIR_IMAGE_LAYOUT == 2);
+    CHECK(HADULMIR_EVENTS_AT == 57 && HADULMIR_IMAGE_LAYOUT == 3);
     CHECK(HADULMIR_BAD_IMAGE == -2 && HADULMIR_PROGRAM_TOO_LARGE == -3 && HADULMIR_PROGRAM_ADDED == -4 && HADULMIR_PRIMACY_RESERVED == -5);
     CHECK(HADULMIR_PROGRAM_UNKNOWN == -6 && HADULMIR_EVENT_INVALID == -7 && HADULMIR_EVENT_DIFFERS == -8 && HADULMIR_EVENT_EXPIRED == -9);
     CHECK(HADULMIR_FULL == -10 && HADULMIR_NOT_HELD == -11 && HADULMIR_BAD_CLOCK == -12 && HADULMIR_TOO_SHORT == -13);
@@ -2249,7 +2465,7 @@ static void test_names(void)
 
 static void test_helpers(void)
 {
-    static const uint8_t row[2 * HADULMIR_ROW_SIZE] = {[24] = 9, [25] = 1, [33] = 7, [17] = 1, [18] = 2};
+    static const uint8_t row[2 * HADULMIR_ROW_SIZE] = {[25] = 1, [26] = 2, [32] = 9, [33] = 1, [40] = 3, [41] = 2, [48] = 5, [49] = 7};
     uint8_t entry[HADULMIR_ENTRY_SIZE] = {0};
     int32_t n, m;
 
@@ -2277,8 +2493,8 @@ static void test_helpers(void)
             CHECK((strcmp(hadulmir_refusal_text(n), hadulmir_refusal_text(m)) == 0) == one);
             CHECK(strlen(hadulmir_refusal_text(n)) > 0 && strchr(hadulmir_refusal_text(n), '\n') == NULL);
         }
-    CHECK(hadulmir_row_at(row, 1).time == UINT64_C(0x0102000000000009) && hadulmir_row_at(row, 1).id == UINT64_C(0x0100000000000000)
-          && hadulmir_row_at(row, 1).code == 7);
+    CHECK(hadulmir_row_at(row, 1).time == UINT64_C(0x0102000000000009) && hadulmir_row_at(row, 1).id.high == UINT64_C(0x0100000000000003)
+          && hadulmir_row_at(row, 1).id.low == UINT64_C(0x0200000000000005) && hadulmir_row_at(row, 1).code == 7);
     for (n = 0; n < 8; n++) {
         entry[CHOICE_AT] = (uint8_t)n;
         CHECK(hadulmir_entry_at(entry).out == (n & OUT) && hadulmir_entry_at(entry).was_in == (n & WAS_IN) / WAS_IN
@@ -2286,15 +2502,118 @@ static void test_helpers(void)
     }
 }
 
+/* Ids as bytes and beside each other. */
+static void test_id_bytes(void)
+{
+    struct lent b = lend(HADULMIR_ID_SIZE);
+    struct hadulmir_id id;
+    size_t i, j;
+
+    for (i = 0; i < IDS; i++) {
+        hadulmir_id_put(ids[i], b.at);
+        CHECK(hadulmir_number_at(b.at, 8) == ids[i].high && hadulmir_number_at(b.at + 8, 8) == ids[i].low && guards_whole(&b));
+        id = hadulmir_id_at(b.at);
+        CHECK(id.high == ids[i].high && id.low == ids[i].low);
+        for (j = 0; j < IDS; j++) {
+            int order = hadulmir_id_compare(ids[i], ids[j]);
+
+            CHECK(i < j ? order < 0 : i > j ? order > 0 : order == 0);
+        }
+    }
+    for (i = 0; i < HADULMIR_ID_SIZE; i++)
+        b.at[i] = (uint8_t)(i + 1);
+    id = hadulmir_id_at(b.at);
+    CHECK(id.high == UINT64_C(0x0102030405060708) && id.low == UINT64_C(0x090A0B0C0D0E0F10));
+    free(b.block);
+}
+
+/* Reads a text out of a buffer of its exact length; what is no mRID leaves the id as it was. */
+static int reads(const char *text, size_t length, uint64_t high, uint64_t low)
+{
+    struct lent b = lend(length);
+    struct hadulmir_id id = {77, 78};
+    int read;
+
+    memcpy(b.at, text, length);
+    read = hadulmir_id_from_text((const char *)b.at, length, &id);
+    free(b.block);
+    return read ? read == 1 && id.high == high && id.low == low : id.high == 77 && id.low == 78 && high == 77 && low == 78;
+}
+
+#define READS(text, high, low) CHECK(reads((text), sizeof(text) - 1, (high), (low)))
+#define NO_ID(text) READS((text), 77, 78)
+
+static void test_id_reading(void)
+{
+    char text[] = "5B4FF9B708CF41BB83C49F6E00007ED9";
+    size_t length, at;
+    unsigned byte;
+
+    NO_ID("");
+    READS("0", 0, 0);
+    READS("f", 0, 15);
+    READS("0FB7", 0, 0xFB7);
+    READS("0300007ed9", 0, UINT64_C(0x300007ED9));
+    READS("FFFFFFFFFFFFFFFF", 0, UINT64_MAX);
+    READS("10000000000000000", 1, 0);
+    READS("FFFFFFFFFFFFFFFFFFFFFFFFFFFFFFF", UINT64_MAX >> 4, UINT64_MAX);
+    READS("FFFFFFFFFFFFFFFFFFFFFFFFFFFFFFFF", UINT64_MAX, UINT64_MAX);
+    READS("00000000000000000000000000000000", 0, 0);
+    READS("0123456789abcdefFEDCBA9876543210", UINT64_C(0x0123456789ABCDEF), UINT64_C(0xFEDCBA9876543210));
+    NO_ID("000000000000000000000000000000000");
+    NO_ID("5B4FF9B708CF41BB83C49F6E00007ED9\0");
+    NO_ID("0x0FB7");
+    NO_ID(" 0FB7");
+    NO_ID("0FB7\n");
+    NO_ID("0F\0B7");
+    NO_ID("-1");
+    for (length = 33; length < 80; length++)
+        CHECK(reads("0000000000000000000000000000000000000000000000000000000000000000000000000000000", length, 77, 78));
+
+    /* every byte in the first, middle and last place; of them '/', ':', '@', 'G', '`' and 'g' stand beside the digits */
+    for (at = 0; at < 32; at += at == 15 ? 1 : 15)
+        for (byte = 0; byte < 256; byte++) {
+            const char old = text[at];
+            int digit = byte != 0 && strchr("0123456789ABCDEFabcdef", (int)byte) != NULL;
+            struct hadulmir_id id;
+
+            text[at] = (char)byte;
+            CHECK(hadulmir_id_from_text(text, 32, &id) == digit && (digit || reads(text, 32, 77, 78)));
+            text[at] = old;
+        }
+}
+
+/* Every id as text, and back, in either case, with and without the zeros before it. */
+static void test_id_writing(void)
+{
+    struct lent b = lend(HADULMIR_ID_TEXT_SIZE);
+    char *text = (char *)b.at, wanted[40];
+    size_t i, k;
+
+    for (i = 0; i < IDS; i++) {
+        hadulmir_id_to_text(ids[i], text);
+        snprintf(wanted, sizeof wanted, "%016" PRIX64 "%016" PRIX64, ids[i].high, ids[i].low);
+        CHECK(strcmp(text, wanted) == 0 && guards_whole(&b));
+        CHECK(reads(text, 32, ids[i].high, ids[i].low));
+        for (k = 0; k < 32; k++)
+            text[k] = (char)('A' <= text[k] && text[k] <= 'F' ? text[k] - 'A' + 'a' : text[k]);
+        for (k = 0; k < 31 && text[k] == '0'; k++)
+            continue;
+        CHECK(reads(text + k, 32 - k, ids[i].high, ids[i].low));
+    }
+    free(b.block);
+}
+
 /* Whether an entry has the fields of test_record's event, each of them different. */
 static int has_fields(const struct hadulmir_entry *entry)
 {
     const struct hadulmir_event *e = &entry->event;
 
-    return e->id == UINT64_C(0x0102030405060708) && e->program == 7 && e->controls == 0xA1B2C3D4u && e->created == 0x11223344
-           && e->start == 0x55667788 && e->duration == 0x99AABBCCu && e->randomize_start == -3600 && e->randomize_duration == 3599
-           && e->start_draw == -2 && e->duration_draw == 3 && entry->effective_start == 0x55667786 && entry->held == 0
-           && entry->cancelled == 0 && entry->out == 1 && entry->was_in == 0 && entry->was_out == 0;
+    return e->id.high == UINT64_C(0x0102030405060708) && e->id.low == UINT64_C(0x090A0B0C0D0E0F10) && e->program == 7
+           && e->controls == 0xA1B2C3D4u && e->created == 0x11223344 && e->start == 0x55667788 && e->duration == 0x99AABBCCu
+           && e->randomize_start == -3600 && e->randomize_duration == 3599 && e->start_draw == -2 && e->duration_draw == 3
+           && entry->effective_start == 0x55667786 && entry->held == 0 && entry->cancelled == 0 && entry->out == 1 && entry->was_in == 0
+           && entry->was_out == 0;
 }
 
 /* A record with every field different, through the part and the helpers, and the image as its readers see it. It is listed behind another. */
@@ -2311,9 +2630,9 @@ static void test_record(void)
     EXPECT(image, event(1, 7, 1, 0, 5000, 600), HADULMIR_RECEIVED);
     CHECK(hadulmir_count_of(image) == 1);
     memcpy(again, image, IMAGE);
-    EXPECT(image, drawn(event(UINT64_C(0x0102030405060708), 7, 0xA1B2C3D4u, 0x11223344, 0x55667788, 0x99AABBCCu), -3600, -2, 3599, 3),
-           HADULMIR_RECEIVED);
-    EXPECT(image, opt_out(UINT64_C(0x0102030405060708)), HADULMIR_OPTED_OUT);
+    EXPECT(image, wide(UINT64_C(0x0102030405060708), drawn(event(UINT64_C(0x090A0B0C0D0E0F10), 7, 0xA1B2C3D4u, 0x11223344, 0x55667788,
+                                                                 0x99AABBCCu), -3600, -2, 3599, 3)), HADULMIR_RECEIVED);
+    EXPECT(image, wide(UINT64_C(0x0102030405060708), opt_out(UINT64_C(0x090A0B0C0D0E0F10))), HADULMIR_OPTED_OUT);
     EXPECT(image, list(2 * HADULMIR_RECORD_SIZE), 2);
     r = hadulmir_record_at(lent_bytes, 1);
     CHECK(has_fields(&r.entry) && r.earliest_start == 0x55666978 && memcmp(lent_bytes + 2 * HADULMIR_RECORD_SIZE - 8, earliest, 8) == 0);
@@ -2329,7 +2648,7 @@ static void test_record(void)
     e = hadulmir_entry_of(image, 1);
     CHECK(has_fields(&e));
     CHECK(hadulmir_deliver_event(again, IMAGE, &e.event) == HADULMIR_RECEIVED);
-    CHECK(hadulmir_opt_out(again, IMAGE, e.event.id) == HADULMIR_OPTED_OUT && same(again, image));
+    CHECK(hadulmir_opt_out(again, IMAGE, e.event.id.high, e.event.id.low) == HADULMIR_OPTED_OUT && same(again, image));
     CHECK(hadulmir_deliver_event(again, IMAGE, &e.event) == 0 && same(again, image));
     e.event.start_draw = 65534; /* cut off to 16 bits this is -2 */
     CHECK(hadulmir_deliver_event(again, IMAGE, &e.event) == HADULMIR_EVENT_INVALID && same(again, image));
@@ -2339,10 +2658,14 @@ int main(void)
 {
     test_names();
     test_helpers();
+    test_id_bytes();
+    test_id_reading();
+    test_id_writing();
     test_record();
     test_fresh();
     test_add_program();
     test_deliver_answers();
+    test_deliver_ended();
     test_deliver_refusals();
     test_cancel();
     test_set_clock();
@@ -2362,6 +2685,10 @@ int main(void)
     test_choice_noted();
     test_choice_frozen();
     test_choice_full();
+    test_id_ties();
+    test_id_order();
+    test_id_named();
+    test_id_images();
     test_unreachable();
     test_choice_by_hand();
     test_broken();

@@ -8,88 +8,155 @@
 
 int32_t __real_hadulmir_fresh(uint8_t *, uint64_t);
 int32_t __real_hadulmir_add_program(uint8_t *, uint64_t, uint8_t, uint8_t, uint32_t);
-int32_t __real_hadulmir_deliver(uint8_t *, uint64_t, uint64_t, uint8_t, uint32_t, uint32_t, uint32_t, uint32_t, uint16_t, uint16_t, uint16_t,
-                                uint16_t);
-int32_t __real_hadulmir_cancel(uint8_t *, uint64_t, uint64_t);
-int32_t __real_hadulmir_opt_out(uint8_t *, uint64_t, uint64_t);
-int32_t __real_hadulmir_opt_in(uint8_t *, uint64_t, uint64_t);
+int32_t __real_hadulmir_deliver(uint8_t *, uint64_t, uint64_t, uint64_t, uint8_t, uint32_t, uint32_t, uint32_t, uint32_t, uint16_t, uint16_t,
+                                uint16_t, uint16_t);
+int32_t __real_hadulmir_cancel(uint8_t *, uint64_t, uint64_t, uint64_t);
+int32_t __real_hadulmir_opt_out(uint8_t *, uint64_t, uint64_t, uint64_t);
+int32_t __real_hadulmir_opt_in(uint8_t *, uint64_t, uint64_t, uint64_t);
 int32_t __real_hadulmir_set_clock(uint8_t *, uint64_t, uint64_t, uint8_t *, uint64_t);
 int32_t __real_hadulmir_ask(const uint8_t *, uint64_t, uint8_t, uint8_t *, uint64_t);
 int32_t __real_hadulmir_list(const uint8_t *, uint64_t, uint8_t *, uint64_t);
 
-/* 1: a longer buffer is accepted. */
+/*
+ * Ids. 1: an id is found by its lower half alone. 2: the halves of an id that is given are exchanged. 3: ids are ordered as signed numbers.
+ * 4: ids are ordered by their lower halves first. For 3 and 4 the archive sees ids for which its own order is that one, and what it wrote is
+ * turned back.
+ */
+static void turn(uint8_t *id)
+{
+    uint8_t half[8];
+
+    if (FAULT == 3)
+        id[0] ^= 0x80;
+    if (FAULT == 4) {
+        memcpy(half, id, 8);
+        memcpy(id, id + 8, 8);
+        memcpy(id + 8, half, 8);
+    }
+}
+
+/* Turns ids that stand `step` bytes apart. */
+static void turn_all(uint8_t *first, size_t count, size_t step)
+{
+    size_t i;
+
+    for (i = 0; i < count; i++)
+        turn(first + i * step);
+}
+
+static void turn_image(const uint8_t *image, uint64_t image_len)
+{
+    if (image_len == HADULMIR_IMAGE_SIZE && hadulmir_count_of(image) <= HADULMIR_EVENTS_AT_MOST)
+        turn_all((uint8_t *)image + HADULMIR_EVENTS_AT, hadulmir_count_of(image), HADULMIR_ENTRY_SIZE);
+}
+
+/* The id that the archive is given in place of this one, for an image as the host has it. */
+static struct hadulmir_id given(const uint8_t *image, uint64_t image_len, uint64_t id_high, uint64_t id_low)
+{
+    struct hadulmir_id id = {FAULT == 2 ? id_low : id_high, FAULT == 2 ? id_high : id_low};
+    uint8_t bytes[HADULMIR_ID_SIZE];
+    size_t i;
+
+    for (i = 0; FAULT == 1 && image_len == HADULMIR_IMAGE_SIZE && i < hadulmir_count_of(image) && i < HADULMIR_EVENTS_AT_MOST; i++)
+        if (hadulmir_entry_of(image, i).event.id.low == id_low)
+            return hadulmir_entry_of(image, i).event.id;
+    hadulmir_id_put(id, bytes);
+    turn(bytes);
+    return hadulmir_id_at(bytes);
+}
+
+/* 5: a longer buffer is accepted. */
 int32_t __wrap_hadulmir_fresh(uint8_t *image, uint64_t image_len)
 {
-    if (FAULT == 1 && image_len == HADULMIR_IMAGE_SIZE + 1)
+    if (FAULT == 5 && image_len == HADULMIR_IMAGE_SIZE + 1)
         image_len--;
     return __real_hadulmir_fresh(image, image_len);
 }
 
-/* 2: a refusal of the primacy changes the last byte of the image. */
+/* 6: a refusal of the primacy changes the last byte of the image. */
 int32_t __wrap_hadulmir_add_program(uint8_t *image, uint64_t image_len, uint8_t number, uint8_t primacy, uint32_t defaults)
 {
-    int32_t returned = __real_hadulmir_add_program(image, image_len, number, primacy, defaults);
+    int32_t returned;
 
-    if (FAULT == 2 && returned == HADULMIR_PRIMACY_RESERVED)
+    turn_image(image, image_len);
+    returned = __real_hadulmir_add_program(image, image_len, number, primacy, defaults);
+    turn_image(image, image_len);
+    if (FAULT == 6 && returned == HADULMIR_PRIMACY_RESERVED)
         image[image_len - 1] ^= 1;
     return returned;
 }
 
-/* 3: the draws are exchanged. 4: a refusal loses its sign. 5: a repeat is new. */
-int32_t __wrap_hadulmir_deliver(uint8_t *image, uint64_t image_len, uint64_t id, uint8_t program, uint32_t controls, uint32_t created,
-                                uint32_t start, uint32_t duration, uint16_t randomize_start, uint16_t randomize_duration,
+/* 7: the draws are exchanged. 8: a refusal loses its sign. 9: a repeat is new. */
+int32_t __wrap_hadulmir_deliver(uint8_t *image, uint64_t image_len, uint64_t id_high, uint64_t id_low, uint8_t program, uint32_t controls,
+                                uint32_t created, uint32_t start, uint32_t duration, uint16_t randomize_start, uint16_t randomize_duration,
                                 uint16_t start_draw, uint16_t duration_draw)
 {
-    int32_t returned = __real_hadulmir_deliver(image, image_len, id, program, controls, created, start, duration, randomize_start,
-                                               randomize_duration, FAULT == 3 ? duration_draw : start_draw,
-                                               FAULT == 3 ? start_draw : duration_draw);
+    struct hadulmir_id id = given(image, image_len, id_high, id_low);
+    int32_t returned;
 
-    if (FAULT == 4 && returned == HADULMIR_FULL)
+    turn_image(image, image_len);
+    returned = __real_hadulmir_deliver(image, image_len, id.high, id.low, program, controls, created, start, duration, randomize_start,
+                                       randomize_duration, FAULT == 7 ? duration_draw : start_draw,
+                                       FAULT == 7 ? start_draw : duration_draw);
+    turn_image(image, image_len);
+    if (FAULT == 8 && returned == HADULMIR_FULL)
         return -returned;
-    return FAULT == 5 && returned == 0 ? 1 : returned;
+    return FAULT == 9 && returned == 0 ? 1 : returned;
 }
 
-/* 6: the mark is set, and the last byte of the first event's mask is left. */
-int32_t __wrap_hadulmir_cancel(uint8_t *image, uint64_t image_len, uint64_t id)
+/* 10: the mark is set, and the last byte of the first event's mask is left. */
+int32_t __wrap_hadulmir_cancel(uint8_t *image, uint64_t image_len, uint64_t id_high, uint64_t id_low)
 {
-    const size_t mask_at = HADULMIR_EVENTS_AT + 44;
+    const size_t mask_at = HADULMIR_EVENTS_AT + 52;
     uint8_t held = image_len > mask_at ? image[mask_at] : 0;
-    int32_t returned = __real_hadulmir_cancel(image, image_len, id);
+    struct hadulmir_id id = given(image, image_len, id_high, id_low);
+    int32_t returned;
 
-    if (FAULT == 6 && returned == HADULMIR_CANCELLED)
+    turn_image(image, image_len);
+    returned = __real_hadulmir_cancel(image, image_len, id.high, id.low);
+    turn_image(image, image_len);
+    if (FAULT == 10 && returned == HADULMIR_CANCELLED)
         image[mask_at] = held;
     return returned;
 }
 
 /* The choice of a held event, or NULL. */
-static uint8_t *choice_of(uint8_t *image, uint64_t id)
+static uint8_t *choice_of(uint8_t *image, struct hadulmir_id id)
 {
     size_t i;
 
     for (i = 0; i < hadulmir_count_of(image); i++)
-        if (hadulmir_entry_of(image, i).event.id == id)
+        if (hadulmir_id_compare(hadulmir_entry_of(image, i).event.id, id) == 0)
             return image + HADULMIR_EVENTS_AT + (i + 1) * HADULMIR_ENTRY_SIZE - 1;
     return NULL;
 }
 
-/* 7: a repeat is a choice. 8: the second at which the choice is made counts as out. */
-int32_t __wrap_hadulmir_opt_out(uint8_t *image, uint64_t image_len, uint64_t id)
+/* 11: a repeat is a choice. 12: the second at which the choice is made counts as out. */
+int32_t __wrap_hadulmir_opt_out(uint8_t *image, uint64_t image_len, uint64_t id_high, uint64_t id_low)
 {
-    int32_t returned = __real_hadulmir_opt_out(image, image_len, id);
+    struct hadulmir_id id = given(image, image_len, id_high, id_low);
+    int32_t returned;
 
-    if (FAULT == 8 && returned == HADULMIR_OPTED_OUT && *choice_of(image, id) > 1)
+    turn_image(image, image_len);
+    returned = __real_hadulmir_opt_out(image, image_len, id.high, id.low);
+    turn_image(image, image_len);
+    if (FAULT == 12 && returned == HADULMIR_OPTED_OUT && *choice_of(image, id) > 1)
         *choice_of(image, id) |= 4;
-    return FAULT == 7 && returned == 0 ? HADULMIR_OPTED_OUT : returned;
+    return FAULT == 11 && returned == 0 ? HADULMIR_OPTED_OUT : returned;
 }
 
-/* 9: that the user was out is forgotten. 10: an id that is not held is taken for one that the user is in for. */
-int32_t __wrap_hadulmir_opt_in(uint8_t *image, uint64_t image_len, uint64_t id)
+/* 13: that the user was out is forgotten. 14: an id that is not held is taken for one that the user is in for. */
+int32_t __wrap_hadulmir_opt_in(uint8_t *image, uint64_t image_len, uint64_t id_high, uint64_t id_low)
 {
-    int32_t returned = __real_hadulmir_opt_in(image, image_len, id);
+    struct hadulmir_id id = given(image, image_len, id_high, id_low);
+    int32_t returned;
 
-    if (FAULT == 9 && returned == HADULMIR_OPTED_IN && *choice_of(image, id) == 6)
+    turn_image(image, image_len);
+    returned = __real_hadulmir_opt_in(image, image_len, id.high, id.low);
+    turn_image(image, image_len);
+    if (FAULT == 13 && returned == HADULMIR_OPTED_IN && *choice_of(image, id) == 6)
         *choice_of(image, id) = 2;
-    return FAULT == 10 && returned == HADULMIR_NOT_HELD ? 0 : returned;
+    return FAULT == 14 && returned == HADULMIR_NOT_HELD ? 0 : returned;
 }
 
 static int is_end(struct hadulmir_row row)
@@ -116,39 +183,54 @@ static void sort_ends(uint8_t *rows, int32_t count)
         }
 }
 
-/* 11: one byte is written behind the last row. 12: one byte is written behind the buffer. 13: the last row is dropped. 14: a refused call has
-   written a row. 15: a buffer that fits is too short. 16: the ends of one second go by code. 17: after seconds in and out an end gives 8,
+/* 15: one byte is written behind the last row. 16: one byte is written behind the buffer. 17: the last row is dropped. 18: a refused call has
+   written a row. 19: a buffer that fits is too short. 20: the ends of one second go by code. 21: after seconds in and out an end gives 8,
    whatever the choice is then. */
 int32_t __wrap_hadulmir_set_clock(uint8_t *image, uint64_t image_len, uint64_t reading, uint8_t *rows, uint64_t rows_len)
 {
     int32_t returned, i;
 
-    if (FAULT == 15 && rows_len == HADULMIR_ROWS_SIZE && reading == 6000)
+    if (FAULT == 19 && rows_len == HADULMIR_ROWS_SIZE && reading == 6000)
         rows_len--;
+    turn_image(image, image_len);
     returned = __real_hadulmir_set_clock(image, image_len, reading, rows, rows_len);
-    if (FAULT == 11 && returned >= 0 && rows_len > (uint64_t)returned * HADULMIR_ROW_SIZE)
+    turn_image(image, image_len);
+    if (returned > 0)
+        turn_all(rows + 8, (size_t)returned, HADULMIR_ROW_SIZE);
+    if (FAULT == 15 && returned >= 0 && rows_len > (uint64_t)returned * HADULMIR_ROW_SIZE)
         rows[(size_t)returned * HADULMIR_ROW_SIZE] ^= 1;
-    if (FAULT == 12 && returned > 0)
+    if (FAULT == 16 && returned > 0)
         rows[rows_len] ^= 1;
-    if (FAULT == 14 && returned == HADULMIR_TOO_SHORT && rows_len > 0)
+    if (FAULT == 18 && returned == HADULMIR_TOO_SHORT && rows_len > 0)
         rows[0] ^= 1;
-    if (FAULT == 16)
+    if (FAULT == 20)
         sort_ends(rows, returned);
-    for (i = 0; FAULT == 17 && i < returned; i++)
+    for (i = 0; FAULT == 21 && i < returned; i++)
         if (hadulmir_row_at(rows, (size_t)i).code == HADULMIR_PARTLY_OPTED_IN)
             rows[(size_t)(i + 1) * HADULMIR_ROW_SIZE - 1] = HADULMIR_PARTLY_OPTED_OUT;
-    return FAULT == 13 && returned == 2 ? 1 : returned;
+    return FAULT == 17 && returned == 2 ? 1 : returned;
 }
 
-/* 18: an id is written beside a default. 19: a held control is answered by its event, whatever the choice. */
+/* 22: an id is written beside a default. 23: a held control is answered by its event, whatever the choice. 24: of an id the upper half alone
+   is written. */
 int32_t __wrap_hadulmir_ask(const uint8_t *image, uint64_t image_len, uint8_t control, uint8_t *id, uint64_t id_len)
 {
-    int32_t returned = __real_hadulmir_ask(image, image_len, control, id, id_len);
+    uint8_t lower[8] = {0};
+    int32_t returned;
     size_t i;
 
-    if (FAULT == 18 && returned >= HADULMIR_DEFAULT && id_len >= HADULMIR_ID_SIZE)
-        id[7] = 0;
-    for (i = 0; FAULT == 19 && !hadulmir_is_refusal(returned) && id_len >= HADULMIR_ID_SIZE && i < hadulmir_count_of(image); i++)
+    if (id_len >= HADULMIR_ID_SIZE)
+        memcpy(lower, id + 8, 8);
+    turn_image(image, image_len);
+    returned = __real_hadulmir_ask(image, image_len, control, id, id_len);
+    turn_image(image, image_len);
+    if (returned == HADULMIR_EVENT)
+        turn(id);
+    if (FAULT == 24 && returned == HADULMIR_EVENT)
+        memcpy(id + 8, lower, 8);
+    if (FAULT == 22 && returned >= HADULMIR_DEFAULT && id_len >= HADULMIR_ID_SIZE)
+        id[15] = 0;
+    for (i = 0; FAULT == 23 && !hadulmir_is_refusal(returned) && id_len >= HADULMIR_ID_SIZE && i < hadulmir_count_of(image); i++)
         if ((hadulmir_entry_of(image, i).held >> control & 1) != 0) {
             memcpy(id, image + HADULMIR_EVENTS_AT + i * HADULMIR_ENTRY_SIZE, HADULMIR_ID_SIZE);
             return HADULMIR_EVENT;
@@ -167,26 +249,31 @@ static void put_earliest(uint8_t *record, uint64_t time)
     }
 }
 
-/* 20: a byte of the image is changed. 21: the earliest start is the effective start. 22: it is start + randomizeStart, lesser or not. 23: a
-   buffer that is long enough for the entries alone is accepted. 24: the choice is not listed. 25: a byte behind the image is read, which
+/* 25: a byte of the image is changed. 26: the earliest start is the effective start. 27: it is start + randomizeStart, lesser or not. 28: a
+   buffer that is long enough for the entries alone is accepted. 29: the choice is not listed. 30: a byte behind the image is read, which
    valgrind alone sees. */
 int32_t __wrap_hadulmir_list(const uint8_t *image, uint64_t image_len, uint8_t *records, uint64_t records_len)
 {
-    int32_t returned = __real_hadulmir_list(image, image_len, records, records_len), i;
+    int32_t returned, i;
 
-    if (FAULT == 20 && returned == 48)
+    turn_image(image, image_len);
+    returned = __real_hadulmir_list(image, image_len, records, records_len);
+    turn_image(image, image_len);
+    if (returned > 0)
+        turn_all(records, (size_t)returned, HADULMIR_RECORD_SIZE);
+    if (FAULT == 25 && returned == 48)
         ((uint8_t *)image)[0] ^= 1;
-    for (i = 0; (FAULT == 21 || FAULT == 22) && i < returned; i++) {
+    for (i = 0; (FAULT == 26 || FAULT == 27) && i < returned; i++) {
         struct hadulmir_entry e = hadulmir_record_at(records, (size_t)i).entry;
         int64_t moved = (int64_t)e.event.start + e.event.randomize_start;
 
-        put_earliest(records + (size_t)i * HADULMIR_RECORD_SIZE, FAULT == 21 ? e.effective_start : (uint64_t)moved);
+        put_earliest(records + (size_t)i * HADULMIR_RECORD_SIZE, FAULT == 26 ? e.effective_start : (uint64_t)moved);
     }
-    if (FAULT == 23 && returned == HADULMIR_TOO_SHORT && records_len >= (uint64_t)HADULMIR_ENTRY_SIZE * hadulmir_count_of(image))
+    if (FAULT == 28 && returned == HADULMIR_TOO_SHORT && records_len >= (uint64_t)HADULMIR_ENTRY_SIZE * hadulmir_count_of(image))
         return hadulmir_count_of(image);
-    for (i = 0; FAULT == 24 && i < returned; i++)
+    for (i = 0; FAULT == 29 && i < returned; i++)
         records[(size_t)i * HADULMIR_RECORD_SIZE + HADULMIR_ENTRY_SIZE - 1] = 0;
-    if (FAULT == 25 && returned >= 0 && image[image_len] == 0x77 && image[image_len + 1] == 0x78)
+    if (FAULT == 30 && returned >= 0 && image[image_len] == 0x77 && image[image_len + 1] == 0x78)
         return returned + 1;
     return returned;
 }

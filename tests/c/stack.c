@@ -39,22 +39,22 @@ static void add_program(void)
 
 static void deliver(void)
 {
-    returned = hadulmir_deliver(image, IMAGE, 7, 0, 1, 1, 20000, 600, 0, 0, 0, 0);
+    returned = hadulmir_deliver(image, IMAGE, 0, 7, 0, 1, 1, 20000, 600, 0, 0, 0, 0);
 }
 
 static void cancel(void)
 {
-    returned = hadulmir_cancel(image, IMAGE, 1000);
+    returned = hadulmir_cancel(image, IMAGE, 0, 1000);
 }
 
 static void opt_out(void)
 {
-    returned = hadulmir_opt_out(image, IMAGE, 1000);
+    returned = hadulmir_opt_out(image, IMAGE, 0, 1000);
 }
 
 static void opt_in(void)
 {
-    returned = hadulmir_opt_in(image, IMAGE, 1001);
+    returned = hadulmir_opt_in(image, IMAGE, 0, 1001);
 }
 
 static void set_clock(void)
@@ -130,9 +130,9 @@ static void make_image(uint32_t events, uint32_t controls, uint64_t clock)
     hadulmir_fresh(image, IMAGE);
     hadulmir_add_program(image, IMAGE, 0, 1, 1);
     for (i = 0; i < events; i++) {
-        hadulmir_deliver(image, IMAGE, 1000 + i, 0, controls, i, 5000 + 10 * i, 900, hadulmir_signed(i % 2 == 0 ? -60 : 60), 0, 0, 0);
+        hadulmir_deliver(image, IMAGE, 0, 1000 + i, 0, controls, i, 5000 + 10 * i, 900, hadulmir_signed(i % 2 == 0 ? -60 : 60), 0, 0, 0);
         if (i % 2 != 0)
-            hadulmir_opt_out(image, IMAGE, 1000 + i);
+            hadulmir_opt_out(image, IMAGE, 0, 1000 + i);
     }
     hadulmir_set_clock(image, IMAGE, clock, rows, sizeof rows);
 }

@@ -71,16 +71,17 @@ static void move_image(void)
 enum kind { FRESH, ADD, DELIVER, CANCEL, OPT_OUT, OPT_IN, CLOCK, ASK, LIST, KINDS };
 
 struct event {
-    uint64_t id;
+    struct hadulmir_id id;
     uint8_t program;
     uint32_t controls, created, start, duration;
     int32_t randomize_start, randomize_duration, start_draw, duration_draw;
 };
 
-/* What is given to a call besides image and buffer: `number` is a program, a control, an id or a reading. */
+/* What is given to a call besides image and buffer: `number` is a program, a control or a reading. */
 struct call {
     enum kind kind;
     uint64_t number;
+    struct hadulmir_id id;
     uint8_t primacy;
     uint32_t defaults;
     struct event event;
@@ -100,15 +101,15 @@ static int32_t act(const struct call *c, uint64_t len, uint8_t *lent)
     case ADD:
         return hadulmir_add_program(image, len, (uint8_t)c->number, c->primacy, c->defaults);
     case DELIVER:
-        return hadulmir_deliver(image, len, e->id, e->program, e->controls, e->created, e->start, e->duration,
+        return hadulmir_deliver(image, len, e->id.high, e->id.low, e->program, e->controls, e->created, e->start, e->duration,
                                 hadulmir_signed(e->randomize_start), hadulmir_signed(e->randomize_duration),
                                 hadulmir_signed(e->start_draw), hadulmir_signed(e->duration_draw));
     case CANCEL:
-        return hadulmir_cancel(image, len, c->number);
+        return hadulmir_cancel(image, len, c->id.high, c->id.low);
     case OPT_OUT:
-        return hadulmir_opt_out(image, len, c->number);
+        return hadulmir_opt_out(image, len, c->id.high, c->id.low);
     case OPT_IN:
-        return hadulmir_opt_in(image, len, c->number);
+        return hadulmir_opt_in(image, len, c->id.high, c->id.low);
     case CLOCK:
         return hadulmir_set_clock(image, len, c->number, lent, c->room);
     case ASK:
@@ -220,10 +221,22 @@ enum times { NEAR, LONG, ACROSS, LAST, TIMES };
 static enum times times;
 static struct event events[IDS]; /* the last one that was delivered under each id */
 
-/* Small ids, ids that differ in their upper half alone, and ids at the upper end. */
-static uint64_t id_of(uint32_t k)
+/* Small ids, such ids with their halves exchanged, and ids at the upper end that agree in one half or in the other. */
+static struct hadulmir_id id_of(uint32_t k)
 {
-    return k % 3 == 0 ? k : k % 3 == 1 ? (uint64_t)k << 32 : ~(uint64_t)k;
+    struct hadulmir_id id = {0, k / 4};
+
+    if (k % 4 == 1) {
+        id.high = id.low + 1;
+        id.low = 0;
+    } else if (k % 4 == 2) {
+        id.high = 7;
+        id.low = ~id.low;
+    } else if (k % 4 == 3) {
+        id.high = ~id.low;
+        id.low = 7;
+    }
+    return id;
 }
 
 /* A randomisation, mostly none, and a draw that mostly fits it. */
@@ -270,7 +283,7 @@ static void deliver(void)
     struct call c = blank(DELIVER);
     uint32_t k = below(IDS);
 
-    if (events[k].id != id_of(k) || below(4) != 0)
+    if (hadulmir_id_compare(events[k].id, id_of(k)) != 0 || below(4) != 0)
         events[k] = new_event(k);
     c.event = events[k];
     switch (below(30)) {
@@ -313,7 +326,7 @@ static void set_clock(uint64_t reading, uint64_t room)
 
 static void pass_time(void)
 {
-    static const uint16_t rooms[] = {0, 1, 16, 17, 33, 34, 51, 100};
+    static const uint16_t rooms[] = {0, 1, 24, 25, 49, 50, 75, 100};
     uint64_t clock = hadulmir_clock_of(image), reading = clock + (once_in(15) ? below(400) : below(12));
 
     if (once_in(40))
@@ -326,7 +339,7 @@ static void name_event(enum kind kind)
 {
     struct call c = blank(kind);
 
-    c.number = held() > 0 && below(5) != 0 ? hadulmir_entry_of(image, below(held())).event.id : id_of(below(IDS));
+    c.id = held() > 0 && below(5) != 0 ? hadulmir_entry_of(image, below(held())).event.id : id_of(below(IDS));
     make(&c);
 }
 
@@ -335,7 +348,7 @@ static void ask(void)
     struct call c = blank(ASK);
 
     c.number = once_in(20) ? 32 + below(224) : once_in(2) ? below(6) : below(32);
-    c.room = once_in(3) ? below(12) : HADULMIR_ID_SIZE;
+    c.room = once_in(3) ? below(20) : HADULMIR_ID_SIZE;
     make(&c);
 }
 

@@ -12,13 +12,13 @@ use Rattle.rules.specs.declared.Line.{Line}
 use Rattle.rules.specs.declared.Line.the-variants.{Good, Bad}
 use Rattle.rules.specs.Calls.{byEvent, byProgram, byNone, Value, nothing, code, count, governor, counted, call}
 use Rattle.rules.specs.Frames.{lineOf, frameCall}
-use Rattle.rules.specs.Printed.{refusedText, codeText, askText, frameText, room, tellFrame, tellLine, tell}
+use Rattle.rules.specs.Printed.{mostDigits, mostIdDigits, refusedText, codeText, askText, frameText, room, tellFrame, tellLine, tell}
 use Rattle.text.specs.Texts.{mostText}
 use Rattle.text.proofs.Printing.{decimal-length, three-length, rows-length}
 use Rattle.calls.proofs.Said.{call-counted}
 
 refused-length : (n : ℕ) → length (refusedText n) ≤ mostText
-refused-length n = simp length-append (omega (arith, decimal-length 20 n))
+refused-length n = simp length-append (omega (arith, decimal-length mostDigits n))
 
 code-length : (t i : ℕ) (v : Value) → length (codeText t i v) ≤ mostText
 code-length t i nothing = omega arith
@@ -30,9 +30,9 @@ ask-length : (c : ℕ) (v : Value) → length (askText c v) ≤ mostText
 ask-length c nothing = omega arith
 ask-length c (code k) = omega arith
 ask-length c (count n) = omega arith
-ask-length c (governor (byEvent i)) = simp length-append (omega (arith, decimal-length 20 c, decimal-length 20 i))
-ask-length c (governor (byProgram p)) = simp length-append (omega (arith, decimal-length 20 c, decimal-length 20 p))
-ask-length c (governor byNone) = simp length-append (omega (arith, decimal-length 20 c))
+ask-length c (governor (byEvent i)) = simp length-append (omega (arith, decimal-length mostDigits c, decimal-length mostIdDigits i))
+ask-length c (governor (byProgram p)) = simp length-append (omega (arith, decimal-length mostDigits c, decimal-length mostDigits p))
+ask-length c (governor byNone) = simp length-append (omega (arith, decimal-length mostDigits c))
 
 frame-length : (s : Schedule) (f : Frame) → length (frameText (s .clock) f (call s (frameCall f room))) ≤ mostText
 frame-length s (frame.Event v) = code-length (s .clock) _ (call s (frameCall (frame.Event v) room) .value)

@@ -14,7 +14,7 @@ use Rattle.rules.specs.declared.Entry.{Entry}
 use Rattle.rules.specs.declared.Schedule.{Schedule}
 use Rattle.rules.specs.declared.Frame.{Frame}
 use Rattle.rules.specs.declared.Frame.the-variants as frame
-use Rattle.rules.specs.Records.{idOf, differ, view, mostRows}
+use Rattle.rules.specs.Records.{idSize, idOf, differ, view, mostRows}
 use Rattle.rules.specs.Bytes.{read, rowSize, rowsSize}
 use Rattle.rules.specs.Sound.{sound}
 use Rattle.rules.specs.Refusals.{find}
@@ -50,8 +50,8 @@ module _ (a b : List ℕ) where
   rows-same zero at s = refl
   rows-same (suc n) at s =
       let time = read-same 8 at (λ j l. s j (omega arith)) in
-      let id = read-same 8 (at + 8) (λ j l. s j (omega arith)) in
-      let code = read-same 1 (at + 16) (λ j l. s j (omega arith)) in
+      let id = read-same idSize (at + 8) (λ j l. s j (omega arith)) in
+      let code = read-same 1 (at + (8 + idSize)) (λ j l. s j (omega arith)) in
       ap₂ _++_ (λ i. threeText (time i) (id i) (code i)) (rows-same n (at + rowSize) (λ j l. s j (omega arith)))
 
   pub rows-front : (n : ℕ) → take (rowSize * n) a ≡ take (rowSize * n) b → rowsText n 0 a ≡ rowsText n 0 b

@@ -19,6 +19,7 @@ use Rattle.rules.specs.Example.{exampleInput, exampleOutput}
 use Rattle.rules.proofs.SoundState.{sound-pad}
 use Rattle.rules.proofs.SoundKept.{sound-fresh}
 use Rattle.rules.proofs.Evaluated.{worked-example}
+use Rattle.frame.specs.Decoded.{longestLine}
 use Rattle.frame.proofs.ByKind.{long-line}
 use Rattle.text.specs.Texts.{mostText}
 use Rattle.calls.specs.Lines.{longer, endedOf, upTo, runs, runOutcome}
@@ -191,26 +192,26 @@ lines-behind b (c ∷ t) more e = by (linesOf more) (lines-behind c t more (rest
     by [] q = rw (rest-none b (c ∷ t) e .0, q)
     by (l ∷ ls) q = rw (rest-none b (c ∷ t) e .0, q)
 
--- a line of more than 68 bytes is no frame, so it does not count which it is
-tell-long : (s : Schedule) (l m : List ℕ) → 68 < length l → 68 < length m → tell s l ≡ tell s m
+-- a line that is longer than every frame's is none, so it does not count which it is
+tell-long : (s : Schedule) (l m : List ℕ) → longestLine < length l → longestLine < length m → tell s l ≡ tell s m
 unfolding tell
 tell-long s l m h k = rw (long-line l h, long-line m k)
 
-pub cut : (s : Schedule) (t more : List ℕ) → endedOf t ≡ [] → tellAll s (linesOf (take 69 t ++ more)) ≡ tellAll s (linesOf (t ++ more))
+pub cut : (s : Schedule) (t more : List ℕ) → endedOf t ≡ [] → tellAll s (linesOf (take (longestLine + 1) t ++ more)) ≡ tellAll s (linesOf (t ++ more))
 unfolding tellAll
 cut s [] more e = refl
 cut s (b ∷ t) more e =
-    cases (ltb 68 (length t))
-    (λ x. rw (lines-behind b (take 68 t) more (take-none 69 (b ∷ t) e), lines-behind b t more e) (same (ltb-true 68 (length t) x) (linesOf more)))
-    (λ x. rw (take-all 68 t (omega (arith, ltb-false 68 (length t) x))))
+    cases (ltb longestLine (length t))
+    (λ x. rw (lines-behind b (take longestLine t) more (take-none (longestLine + 1) (b ∷ t) e), lines-behind b t more e) (same (ltb-true longestLine (length t) x) (linesOf more)))
+    (λ x. rw (take-all longestLine t (omega (arith, ltb-false longestLine (length t) x))))
   where
-    long : 68 < length t → (l : List ℕ) → tell s (b ∷ (take 68 t ++ l)) ≡ tell s (b ∷ (t ++ l))
+    long : longestLine < length t → (l : List ℕ) → tell s (b ∷ (take longestLine t ++ l)) ≡ tell s (b ∷ (t ++ l))
     long h l =
         tell-long s _ _
-        (omega (arith, length-append (take 68 t) l, length-take-le 68 t (omega arith)))
+        (omega (arith, length-append (take longestLine t) l, length-take-le longestLine t (omega arith)))
         (omega (arith, length-append t l))
 
-    same : 68 < length t → (ls : List (List ℕ)) → tellAll s (before (b ∷ take 68 t) ls) ≡ tellAll s (before (b ∷ t) ls)
+    same : longestLine < length t → (ls : List (List ℕ)) → tellAll s (before (b ∷ take longestLine t) ls) ≡ tellAll s (before (b ∷ t) ls)
     same h [] = rw (simp append-nil at (long h []))
     same h (l ∷ ls) = rw (long h l)
 

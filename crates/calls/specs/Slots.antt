@@ -7,17 +7,21 @@ use lib.Dec.{eqb}
 use lib.ListN.{length, take, getD}
 use Rattle.rules.specs.declared.Entry.{Entry}
 use Rattle.rules.specs.declared.Schedule.{Schedule}
-use Rattle.rules.specs.Records.{State, mostEvents, eventOf, pad}
+use Rattle.rules.specs.Records.{State, mostEvents, halves, eventOf, pad}
 use Rattle.rules.specs.Bytes.{rowsSize}
 use Rattle.rules.specs.Sound.{sound}
 use Rattle.calls.specs.declared.held.Head.{Head}
 
--- the places of the numbers in a slot: the fields of an event in their order, then effective start, held mask, the mark of a cancelled one, and the three of a choice
-abbrev pub idPlace : ℕ
-idPlace = 0
+-- the places of the numbers in a slot: the halves of an event's id and its other fields in their order, then effective start, held mask, the mark of a cancelled one,
+-- and the three of a choice
+abbrev pub highPlace : ℕ
+highPlace = 0
+
+abbrev pub lowPlace : ℕ
+lowPlace = highPlace + 1
 
 abbrev pub programPlace : ℕ
-programPlace = idPlace + 1
+programPlace = lowPlace + 1
 
 abbrev pub controlsPlace : ℕ
 controlsPlace = programPlace + 1
@@ -78,7 +82,7 @@ values32 = 4294967296
 abbrev pub entryFrom : (ℕ → ℕ) → Entry
 entryFrom at =
     record {
-      event = eventOf (at idPlace) (at programPlace % values8) (at controlsPlace % values32) (at createdPlace % values32) (at startPlace % values32) (at durationPlace % values32)
+      event = eventOf (halves (at highPlace) (at lowPlace)) (at programPlace % values8) (at controlsPlace % values32) (at createdPlace % values32) (at startPlace % values32) (at durationPlace % values32)
           (at randomizeStartPlace % values16) (at randomizeDurationPlace % values16) (at startDrawPlace % values16) (at durationDrawPlace % values16);
       begins = at beginsPlace;
       held = at heldPlace % values32;

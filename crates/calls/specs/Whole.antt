@@ -11,6 +11,7 @@ use Rattle.rules.specs.Sound.{sound}
 use Rattle.rules.specs.Calls.{count, counted}
 use Rattle.rules.specs.Printed.{linesOf, lineFeed, tell, tellAll, output}
 use Rattle.rules.specs.Example.{exampleInput, exampleOutput}
+use Rattle.frame.specs.Decoded.{longestLine}
 use Rattle.text.specs.Texts.{mostText}
 use Rattle.calls.specs.Lines.{endedOf, RunOutcome, runOutcome}
 
@@ -90,8 +91,8 @@ pub record WholeText : Type 0 where
       ≡ record { number = 0; value = count (length (output t)); state = afterLines (pad fresh) (linesOf t); read = length t; bytes = over (output t) out }
   -- the last line may lack its line feed: with one added the lines are the same, and all have ended
   pub feed : (t : List ℕ) → (Ended t → ⊥) → (linesOf (t ++ lineFeed) ≡ linesOf t) × Ended (t ++ lineFeed)
-  -- of a line that has not ended no more than 69 bytes count
-  pub cut : (s : Schedule) (t after : List ℕ) → endedOf t ≡ [] → tellAll s (linesOf (take 69 t ++ after)) ≡ tellAll s (linesOf (t ++ after))
+  -- of a line that has not ended no more count than the longest frame's bytes and one
+  pub cut : (s : Schedule) (t after : List ℕ) → endedOf t ≡ [] → tellAll s (linesOf (take (longestLine + 1) t ++ after)) ≡ tellAll s (linesOf (t ++ after))
   -- the worked example: one run over its lines writes what document 01 has printed for them
   pub example : (out : List ℕ) → length exampleOutput + mostText ≤ length out
       → runOutcome (pad fresh) exampleInput out

@@ -16,11 +16,13 @@ use rules::Id;
 use rules::Program;
 use rules::Schedule;
 
-// The places of the numbers in a slot: the fields in document 01's order, then effective start, held mask, 1 if the event is cancelled, and the choice: 1 if the
-// user is out, was in, was out.
-const ID: usize = 0;
+// The places of the numbers in a slot: the halves of the id, the other fields in document 01's order, then effective start, held mask, 1 if the event is
+// cancelled, and the choice: 1 if the user is out, was in, was out.
+const ID_HIGH: usize = 0;
 
-const PROGRAM: usize = ID + 1;
+const ID_LOW: usize = ID_HIGH + 1;
+
+const PROGRAM: usize = ID_LOW + 1;
 
 const CONTROLS: usize = PROGRAM + 1;
 
@@ -94,7 +96,8 @@ pub(crate) fn slot_of(h: Entry) -> Slot
     ensures { λ r. ⌜ entryOf r ≡ h ⌝ }
 {
     [
-        h.event.id.number(),
+        h.event.id.upper(),
+        h.event.id.lower(),
         h.event.program as u64,
         h.event.controls as u64,
         h.event.created as u64,
@@ -117,7 +120,7 @@ pub(crate) fn entry_of(slot: Slot) -> Entry
     ensures { λ r. ⌜ r ≡ entryOf slot ⌝ }
 {
     let event = Event {
-        id: Id::of(slot[ID]),
+        id: Id::of(slot[ID_HIGH], slot[ID_LOW]),
         program: (slot[PROGRAM] % VALUES8) as u8,
         controls: (slot[CONTROLS] % VALUES32) as u32,
         created: (slot[CREATED] % VALUES32) as u32,
@@ -175,7 +178,7 @@ pub(crate) fn id_at(slots: &Slots, i: usize) -> Id
     requires { ⌜ i < mostEvents ⌝ }
     ensures { λ r. ⌜ r ≡ entryOf (getD (now (slots .entry)) i []) .event .id ⌝ }
 {
-    Id::of(slots[i][ID])
+    Id::of(slots[i][ID_HIGH], slots[i][ID_LOW])
 }
 
 pub(crate) fn program_at(slots: &Slots, i: usize) -> u8

@@ -1,6 +1,6 @@
 -- A frame and its line are inverse: the line's pairs are the frame's bytes, which are its fields.
 use mathlib.Core.Path.{_≡_, refl, sym, ap, _∙_}
-use Prim.Native.Nat.{ℕ, _+_, _^_, _<_, _≤_}
+use Prim.Native.Nat.{ℕ, zero, suc, _+_, _/_, _%_, _^_, _<_, _≤_}
 use mathlib.Core.Bool.{Bool, true, false, cond}
 use mathlib.Core.List.{List, [], _∷_, _++_, append-assoc, append-nil}
 use native.Mathlib.Omega.{arith}
@@ -11,14 +11,15 @@ use lib.ListN.{length, getD, drop, length-drop, drop-of-length-le}
 use lib.Seq.{drop-cons, drop-drop, getD-drop}
 use mir.Val.{Val}
 use Rattle.rules.specs.declared.Id.{Id}
+use Rattle.rules.specs.declared.Event.{Event}
 use Rattle.rules.specs.declared.Frame.{Frame}
 use Rattle.rules.specs.declared.Frame.the-variants as frame
 use Rattle.rules.specs.declared.Line.the-variants.{Good, Bad}
-use Rattle.rules.specs.Records.{idSize, idLimit, idNumber}
+use Rattle.rules.specs.Records.{idSize, idNumber, idOf, IdFits}
 use Rattle.rules.specs.Bytes.{big, read, idAt, eventSize, eventAt, eventBytes}
 use Rattle.rules.specs.Frames.{eventFrame, idFrame, programFrame, paired, unhex, isFrame, frameOf, lineOf}
-use Rattle.rules.proofs.IdLaws.{number-id, id-number}
-use Rattle.rules.proofs.Numbers.{Bytes, read-below, read-big, piece}
+use Rattle.rules.proofs.IdLaws.{number-id, id-number, id-below}
+use Rattle.rules.proofs.Numbers.{Bytes, read-big, piece}
 use Rattle.rules.proofs.Entries.{FitsEvent, event-of-bytes, event-drop, event-piece}
 use Rattle.rules.proofs.Ranges.{Owned}
 use Rattle.rules.proofs.Frame as frames
@@ -30,15 +31,14 @@ use Rattle.frame.proofs.ByKind.{by-kind, frame-none, frame-by-kind}
 -- each field fits its width
 abbrev FitsFrame : Frame → Type 0
 FitsFrame (frame.Event e) = FitsEvent e
-FitsFrame (frame.Cancel i) = idNumber i < idLimit
+FitsFrame (frame.Cancel i) = IdFits i
 FitsFrame (frame.Clock t) = t < 256 ^ 8
 FitsFrame (frame.Program n p d) = (n < 256 ^ 1) × (p < 256 ^ 1) × (d < 256 ^ 4)
 FitsFrame (frame.Ask c) = c < 256 ^ 1
-FitsFrame (frame.OptOut i) = idNumber i < idLimit
-FitsFrame (frame.OptIn i) = idNumber i < idLimit
+FitsFrame (frame.OptOut i) = IdFits i
+FitsFrame (frame.OptIn i) = IdFits i
 
 pub frame-fits : (f : Frame) (vs : List Val) → Owned frames.the-field f vs → FitsFrame f
-unfolding idNumber
 frame-fits (frame.Event e) vs s = search needs
 frame-fits (frame.Cancel i) vs s = search needs
 frame-fits (frame.Clock t) vs s = search needs
@@ -47,20 +47,37 @@ frame-fits (frame.Ask c) vs s = search needs
 frame-fits (frame.OptOut i) vs s = search needs
 frame-fits (frame.OptIn i) vs s = search needs
 
+-- the bytes of a number, and those of one thing and then another
+small-append : (a b : List ℕ) → Small a → Small b → Small (a ++ b)
+small-append [] b s t = t
+small-append (x ∷ a) b s t = (s .0, small-append a b (s .1) t)
+
+small-big : (n x : ℕ) → Small (big n x)
+unfolding big
+small-big zero x = tt
+small-big (suc n) x = small-append (big n (x / 256)) (x % 256 ∷ []) (small-big n (x / 256)) (omega arith, tt)
+
+small-event : (e : Event) → Small (eventBytes e)
+unfolding eventBytes
+small-event e =
+    let then : (n x : ℕ) (rest : List ℕ) → Small rest → Small (big n x ++ rest) = λ n x rest s. small-append (big n x) rest (small-big n x) s in
+    then idSize (idOf e) _ (then 1 (e .program) _ (then 4 (e .controls) _ (then 4 (e .created) _ (then 4 (e .start) _ (then 4 (e .duration) _
+    (then 2 (e .«randomize_start») _ (then 2 (e .«randomize_duration») _ (then 2 (e .«start_draw») _ (small-big 2 (e .«duration_draw»))))))))))
+
 small-bytes : (f : Frame) → Small (frameBytes f)
-unfolding frameBytes fieldBytes eventBytes big
-small-bytes (frame.Event e) = (omega arith, (omega arith, omega arith))
-small-bytes (frame.Cancel i) = omega arith
-small-bytes (frame.Clock t) = omega arith
-small-bytes (frame.Program n p d) = omega arith
-small-bytes (frame.Ask c) = omega arith
-small-bytes (frame.OptOut i) = omega arith
-small-bytes (frame.OptIn i) = omega arith
+unfolding frameBytes fieldBytes
+small-bytes (frame.Event e) = (omega arith, small-event e)
+small-bytes (frame.Cancel i) = (omega arith, small-big idSize (idNumber i))
+small-bytes (frame.Clock t) = (omega arith, small-big 8 t)
+small-bytes (frame.Program n p d) = (omega arith, small-append (big 1 n) _ (small-big 1 n) (small-append (big 1 p) (big 4 d) (small-big 1 p) (small-big 4 d)))
+small-bytes (frame.Ask c) = (omega arith, small-big 1 c)
+small-bytes (frame.OptOut i) = (omega arith, small-big idSize (idNumber i))
+small-bytes (frame.OptIn i) = (omega arith, small-big idSize (idNumber i))
 
 -- the id behind a kind
-id-of-bytes : (k : ℕ) (i : Id) → idNumber i < idLimit → idAt 1 (k ∷ big idSize (idNumber i)) ≡ i
+id-of-bytes : (k : ℕ) (i : Id) → IdFits i → idAt 1 (k ∷ big idSize (idNumber i)) ≡ i
 unfolding big read
-id-of-bytes k i h = rw (read-big idSize (idNumber i) h, id-number i)
+id-of-bytes k i h = rw (read-big idSize (idNumber i) (id-below i h), id-number i h)
 
 frame-of-bytes : (f : Frame) → FitsFrame f → frameOf (frameBytes f) ≡ Good f
 unfolding frameOf isFrame frameBytes fieldBytes eventBytes big read
@@ -92,7 +109,7 @@ module _ (b : List ℕ) (bytes : Bytes b) where
 
   -- the kinds that have an id alone
   of-id : (k : ℕ) → getD b 0 0 ≡ k → length b ≡ idFrame → k ∷ big idSize (idNumber (idAt 1 b)) ≡ b
-  of-id k i h = behind k idSize _ i h (rw (number-id (read idSize 1 b) (read-below b bytes idSize 1)) (piece b bytes idSize 1 (omega arith)))
+  of-id k i h = behind k idSize _ i h (rw (number-id (read idSize 1 b)) (piece b bytes idSize 1 (omega arith)))
 
   of-program : length b ≡ programFrame → programFields (read 1 1 b) (read 1 2 b) (read 4 3 b) ++ drop programFrame b ≡ drop 1 b
   of-program h = simp append-assoc (rw (piece b bytes 4 3 (omega arith), piece b bytes 1 2 (omega arith), piece b bytes 1 1 (omega arith)))

@@ -1,10 +1,11 @@
 // The C face: every operation on an image as bytes. It answers, and leaves the image, as the same call by value does: it loads the image, makes the call
 // and stores what the call left. A question stores nothing, since an accepted image is that of its schedule; a listing checks the schedule and writes its
 // records, and makes no call. A number that is returned is an answer, or the two's complement of a refusal's negative; a refused operation leaves every byte.
+// Document 02, #104: an id comes in as two numbers, its upper half first, and goes out as its bytes.
 ghost use mathlib.Core.Path.{_≡_};
 ghost use mathlib.Core.Bool.{true, false};
 ghost use mathlib.Core.List.{[]};
-ghost use Rattle.rules.specs.Records.{eventOf};
+ghost use Rattle.rules.specs.Records.{halves, eventOf};
 ghost use Rattle.rules.specs.Face.{addsProgram, delivers, cancels, chooses, setsClock, asks, lists, face, faceFresh};
 ghost use Rattle.hadulmir.specs.Outcomes.{loadOutcome, storeOutcome, faceOf};
 
@@ -92,7 +93,8 @@ pub extern "C" fn hadulmir_add_program(
 #[no_mangle]
 pub extern "C" fn hadulmir_deliver(
     image: &mut [u8],
-    id: u64,
+    id_high: u64,
+    id_low: u64,
     program: u8,
     controls: u32,
     created: u32,
@@ -104,7 +106,7 @@ pub extern "C" fn hadulmir_deliver(
     duration_draw: u16,
 ) -> u32
     ensures { λ r. ⌜ faceOf r (now (image .exit)) [] ≡ face (now (image .entry))
-        (delivers (eventOf id program controls created start duration «randomize_start» «randomize_duration» «start_draw» «duration_draw»)) [] ⌝ }
+        (delivers (eventOf (halves «id_high» «id_low») program controls created start duration «randomize_start» «randomize_duration» «start_draw» «duration_draw»)) [] ⌝ }
 {
     let read = image::read(image);
     if !read.formed {
@@ -112,7 +114,7 @@ pub extern "C" fn hadulmir_deliver(
     }
     let s = read.schedule;
     let e = Event {
-        id: Id::of(id),
+        id: Id::of(id_high, id_low),
         program,
         controls,
         created,
@@ -128,43 +130,43 @@ pub extern "C" fn hadulmir_deliver(
 
 // Calls, cancel.
 #[no_mangle]
-pub extern "C" fn hadulmir_cancel(image: &mut [u8], id: u64) -> u32
-    ensures { λ r. ⌜ faceOf r (now (image .exit)) [] ≡ face (now (image .entry)) (cancels id) [] ⌝ }
+pub extern "C" fn hadulmir_cancel(image: &mut [u8], id_high: u64, id_low: u64) -> u32
+    ensures { λ r. ⌜ faceOf r (now (image .exit)) [] ≡ face (now (image .entry)) (cancels (halves «id_high» «id_low»)) [] ⌝ }
 {
     let read = image::read(image);
     if !read.formed {
         return answers::negative(2);
     }
     let s = read.schedule;
-    answers::finish(calls::cancel(s, Id::of(id)), image)
+    answers::finish(calls::cancel(s, Id::of(id_high, id_low)), image)
 }
 
 // Document 02, #102, opt out or opt in.
-fn choose(image: &mut [u8], id: u64, out: bool) -> u32
-    ensures { λ r. ⌜ faceOf r (now (image .exit)) [] ≡ face (now (image .entry)) (chooses id out) [] ⌝ }
+fn choose(image: &mut [u8], id_high: u64, id_low: u64, out: bool) -> u32
+    ensures { λ r. ⌜ faceOf r (now (image .exit)) [] ≡ face (now (image .entry)) (chooses (halves «id_high» «id_low») out) [] ⌝ }
 {
     let read = image::read(image);
     if !read.formed {
         return answers::negative(2);
     }
     let s = read.schedule;
-    answers::finish(calls::choose(s, Id::of(id), out), image)
+    answers::finish(calls::choose(s, Id::of(id_high, id_low), out), image)
 }
 
 // Document 02, #102, opt out.
 #[no_mangle]
-pub extern "C" fn hadulmir_opt_out(image: &mut [u8], id: u64) -> u32
-    ensures { λ r. ⌜ faceOf r (now (image .exit)) [] ≡ face (now (image .entry)) (chooses id true) [] ⌝ }
+pub extern "C" fn hadulmir_opt_out(image: &mut [u8], id_high: u64, id_low: u64) -> u32
+    ensures { λ r. ⌜ faceOf r (now (image .exit)) [] ≡ face (now (image .entry)) (chooses (halves «id_high» «id_low») true) [] ⌝ }
 {
-    choose(image, id, true)
+    choose(image, id_high, id_low, true)
 }
 
 // Document 02, #102, opt in.
 #[no_mangle]
-pub extern "C" fn hadulmir_opt_in(image: &mut [u8], id: u64) -> u32
-    ensures { λ r. ⌜ faceOf r (now (image .exit)) [] ≡ face (now (image .entry)) (chooses id false) [] ⌝ }
+pub extern "C" fn hadulmir_opt_in(image: &mut [u8], id_high: u64, id_low: u64) -> u32
+    ensures { λ r. ⌜ faceOf r (now (image .exit)) [] ≡ face (now (image .entry)) (chooses (halves «id_high» «id_low») false) [] ⌝ }
 {
-    choose(image, id, false)
+    choose(image, id_high, id_low, false)
 }
 
 // Calls, set the clock. The rows go over the front of `rows`.

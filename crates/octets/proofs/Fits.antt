@@ -38,14 +38,9 @@ module _ (at : ℕ) (l : List ℕ) where
   unfolding getId
   id-inside h = rw (le-leb (at + idSize) (length l) h)
 
-  -- as a number that is read
-  pub id-read : idFrom (getAt 8 at l) ≡ getId at l
-  unfolding getAt getId
-  id-read = by (leb (at + idSize) (length l))
-    where
-      by : (b : Bool) → idFrom (cond b (read idSize at l) 0) ≡ cond b (idAt at l) (idFrom 0)
-      by true = refl
-      by false = refl
+  pub id-outside : length l < at + idSize → getId at l ≡ idFrom 0
+  unfolding getId
+  id-outside h = rw (lt-leb (at + idSize) (length l) h)
 
   pub event-inside : at + eventSize ≤ length l → getEvent at l ≡ eventAt at l
   unfolding getEvent

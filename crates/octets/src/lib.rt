@@ -86,14 +86,29 @@ pub fn put8(b: &mut [u8], at: usize, x: u64)
 pub fn get_id(b: &[u8], at: usize) -> Id
     ensures { λ r. ⌜ r ≡ getId at (now (b .entry)) ⌝ }
 {
-    Id::of(get(b, at, Id::SIZE))
+    if b.len() < Id::SIZE {
+        return Id::of(0, 0);
+    }
+    if b.len() - Id::SIZE < at {
+        return Id::of(0, 0);
+    }
+    let high = get(b, at, Id::HALF);
+    let low = get(b, at + Id::HALF, Id::HALF);
+    Id::of(high, low)
 }
 
 // Writes the bytes of an id from `at` on; leaves the slice alone if there is no room for them all.
 pub fn put_id(out: &mut [u8], at: usize, id: Id)
     ensures { λ _. ⌜ now (out .exit) ≡ putAt idSize at (idNumber id) (now (out .entry)) ⌝ }
 {
-    put8(out, at, id.number());
+    if out.len() < Id::SIZE {
+        return;
+    }
+    if out.len() - Id::SIZE < at {
+        return;
+    }
+    numbers::put_u64(out, at, id.upper());
+    numbers::put_u64(out, at + Id::HALF, id.lower());
 }
 
 // The event whose bytes stand at `at`; one with all fields zero if they are not all there.

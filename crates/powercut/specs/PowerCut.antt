@@ -7,7 +7,7 @@ use lib.ListN.{length}
 use Rattle.rules.specs.declared.Event.{Event}
 use Rattle.rules.specs.declared.Schedule.{Schedule}
 use Rattle.rules.specs.Lists.{All}
-use Rattle.rules.specs.Records.{idLimit, idOf}
+use Rattle.rules.specs.Records.{idLimit, IdFits}
 use Rattle.rules.specs.Calls.{program, event, cancellation, decision, question, Call, bare, setClock, list, call, run, joined}
 use Rattle.rules.specs.Arrival.{after}
 use Rattle.rules.specs.Image.{imageSize, image, loaded}
@@ -16,7 +16,7 @@ use Rattle.rules.specs.Clauses.{ImageKept}
 
 -- Records, event: each field fits its width
 pub record FieldsFit (e : Event) : Type 0 where
-  pub id : idOf e < idLimit
+  pub id : IdFits (e .id)
   pub program : e .program < 2 ^ 8
   pub controls : e .controls < 2 ^ 32
   pub created : e .created < 2 ^ 32

@@ -14,7 +14,7 @@ use Rattle.rules.specs.declared.Entry.{Entry}
 use Rattle.rules.specs.declared.Record.{Record}
 use Rattle.rules.specs.declared.Schedule.{Schedule}
 use Rattle.rules.specs.Lists.{each, In, Pairwise}
-use Rattle.rules.specs.Records.{State, idOf, lastClock, programAt, view, pad, mostEvents}
+use Rattle.rules.specs.Records.{State, idOf, IdFits, lastClock, programAt, view, pad, mostEvents}
 use Rattle.rules.specs.Moments.{advance, passed}
 use Rattle.rules.specs.Bytes.{bytes, flat, rowSize}
 use Rattle.rules.specs.Sound.{malformed, sameEvent, sound}
@@ -22,6 +22,7 @@ use Rattle.rules.specs.Refusals.{Check, firstOf, find, programChecks, ev
 use Rattle.rules.specs.Calls.{program, event, cancellation, decision, question, Call, bare, deliver, cancel, setClock, list, code, count, entryId, withEntries, mark, cancelCode, does, checks, refusal, accepts, accepted, refused, lentBytes, lentList, call}
 use Rattle.rules.specs.Clauses.{Fit, CallClauses}
 use Rattle.rules.proofs.Tests.{each-true, first-not}
+use Rattle.rules.proofs.IdLaws.{same-id}
 use Rattle.rules.proofs.SoundState.{Sound, ById, same-event, view-pad, sound-pad, sound-view, pad-view, rules}
 use Rattle.rules.proofs.SoundKept.{sound-call}
 use Rattle.rules.proofs.Cancelled.{somebody, nobody-missing, find-marked}
@@ -107,16 +108,16 @@ module _ (s : Schedule) (e : sound s ≡ true) (h : Entry) (m : In h (view s .en
       done s e (deliver (h .event)) (rw (held, le-ltb 7 (h .event .program) (q .numbered), q .added, q .well, event-same (h .event)))
       ∙ rw held (ap (λ z. record { number = 0; value = code 0; state = z; bytes = []; records = [] }) (pad-view s e))
 
-  redrawn : (d : Event) → idOf (h .event) ≡ idOf d → (h .event ≡ d → ⊥) → call s (deliver d) .number ≡ 0 → ⊥
+  redrawn : (d : Event) → IdFits (h .event .id) → IdFits (d .id) → idOf (h .event) ≡ idOf d → (h .event ≡ d → ⊥) → call s (deliver d) .number ≡ 0 → ⊥
   unfolding checks eventChecks
-  redrawn d i f z =
+  redrawn d a b i f z =
       let old : find (idOf d) (view s .entries) ≡ some h = subst (λ k. find k (view s .entries) ≡ some h) i held in
       let ok : eqb (firstOf (eventChecks (view s) d (some h))) 0 ≡ true = eq-eqb _ 0 (rw old at (sym (own s e (deliver d)) ∙ z)) in
       let r3 = first-not 3 (ltb 7 (d .program)) _ refl ok in
       let r6 = first-not 6 (not (programAt (s .programs) (d .program) .added)) _ refl (r3 .1) in
       let r7 = first-not 7 (malformed d) _ refl (r6 .1) in
       let r8 = first-not 8 (not (sameEvent (h .event) d)) _ refl (r7 .1) in
-      f (same-event (h .event) d (not-false (sameEvent (h .event) d) (r8 .0)))
+      f (same-event (h .event) d (not-false (sameEvent (h .event) d) (r8 .0)) (same-id (h .event .id) (d .id) a b))
 
 -- Cancellations.
 

@@ -5,23 +5,23 @@ use mathlib.Core.Bool.{Bool, true, false, cond, _&&_}
 use mathlib.Core.List.{List, [], _∷_, _++_, append-assoc}
 use native.Mathlib.Omega.{arith}
 use borrow.Author.Needs.{needs}
-use lib.Dec.{leb, eqb}
+use lib.Dec.{leb, eqb, lit<}
 use borrow.Author.Tests.{leb-true}
 use lib.ListN.{length, drop}
 use Rattle.rules.specs.declared.Event.{Event}
 use Rattle.rules.specs.declared.Entry.{Entry}
 use Rattle.rules.specs.declared.Choice.{Choice}
 use Rattle.rules.specs.declared.Record.{Record}
-use Rattle.rules.specs.Records.{idSize, idLimit, idOf, has, noEvent, noEntry}
+use Rattle.rules.specs.Records.{idSize, idOf, IdFits, has, noEntry}
 use Rattle.rules.specs.Bytes.{big, read, eventAt, eventBytes, entryAt, entryBytes, recordBytes, flag, choiceByte, choiceOf, eventSize, entrySize, markAt, choiceAt, recordSize}
 use Rattle.rules.specs.Image.{marked}
 use Rattle.rules.proofs.Tests.{each-true}
-use Rattle.rules.proofs.IdLaws.{number-id, zero-id, id-number}
+use Rattle.rules.proofs.IdLaws.{number-id, id-number, id-below, from-fits}
 use Rattle.rules.proofs.Numbers.{Bytes, read-below, read-big, read-drop, piece, Inverse, allGood}
 
 -- each field fits its width
 pub record FitsEvent (e : Event) : Type 0 where
-  pub id : idOf e < idLimit
+  pub id : IdFits (e .id)
   pub program : e .program < 256 ^ 1
   pub controls : e .controls < 256 ^ 4
   pub created : e .created < 256 ^ 4
@@ -39,7 +39,7 @@ pub record FitsEntry (h : Entry) : Type 0 where
 
 -- a place that is not in use
 pub none-fits : FitsEntry noEntry
-none-fits = let zero : idOf noEvent ≡ 0 = zero-id in search needs
+none-fits = let zero = from-fits 0 (lit< tt) in search needs
 
 pub entry-size : (h : Entry) → length (entryBytes h) ≡ entrySize
 unfolding entryBytes eventBytes big
@@ -54,8 +54,8 @@ pub event-of-bytes : (e : Event) → FitsEvent e → (r : List ℕ) → eventAt 
 unfolding eventAt eventBytes read big
 event-of-bytes e f r =
     rw (
-      read-big idSize (idOf e) (f .id),
-      id-number (e .id),
+      read-big idSize (idOf e) (id-below (e .id) (f .id)),
+      id-number (e .id) (f .id),
       read-big 1 (e .program) (f .program),
       read-big 4 (e .controls) (f .controls),
       read-big 4 (e .created) (f .created),
@@ -137,14 +137,14 @@ flag-byte (suc (suc x)) h = absurd (omega arith)
 
 -- an event entry's mark is 0 or 1, and its choice has no bit above 2
 abbrev pub entryMarks : ℕ → List ℕ → Bool
-entryMarks at l = leb (read 1 (at + 45) l) 1 && leb (read 1 (at + 46) l) 7
+entryMarks at l = leb (read 1 (at + markAt) l) 1 && leb (read 1 (at + choiceAt) l) 7
 
 module _ (l : List ℕ) (b : Bytes l) where
   -- bytes are those of the event that they are
   pub event-piece : eventSize ≤ length l → eventBytes (eventAt 0 l) ++ drop eventSize l ≡ l
   unfolding eventAt eventBytes
   event-piece h =
-      simp (append-assoc, number-id (read idSize 0 l) (read-below l b idSize 0))
+      simp (append-assoc, number-id (read idSize 0 l))
       (rw (
         piece l b 2 (idSize + 23) (omega arith),
         piece l b 2 (idSize + 21) (omega arith),
@@ -192,5 +192,5 @@ entry-marks h r = ap₂ _&&_ (flag-small (h .cancelled)) (choice-small (h .choic
 marks-drop : (at : ℕ) (l : List ℕ) → entryMarks 0 (drop at l) ≡ entryMarks at l
 marks-drop at l = simp read-drop
 
-pub entry-inverse : Inverse FitsEntry entryAt entryBytes 47 entryMarks
+pub entry-inverse : Inverse FitsEntry entryAt entryBytes entrySize entryMarks
 entry-inverse = record { size = entry-size; marks = entry-marks; reads = entry-of-bytes; puts = entry-piece; moves = entry-drop; good-moves = marks-drop }

@@ -16,7 +16,7 @@ use Rattle.rules.specs.Image.{imageSize, image, loaded, imaged}
 use Rattle.rules.specs.Refusals.{find}
 use Rattle.rules.specs.Calls.{program, event, cancellation, decision, question, Call, bare, setClock, list, received, cancelCode, choiceCode, does, accepts, accepted, refused, Governor, byEvent, byProgram, byNone, Value, nothing, code, count, governor, numberOf, valueOf, call}
 use Rattle.rules.specs.Face.{Operation, asCall, answerBytes, idTooLong, shown, negative, lentAfter, face, faceFresh}
-use Rattle.rules.specs.Clauses.{AnswerClause, FaceClauses, ImageKept}
+use Rattle.rules.specs.Clauses.{AnswerFits, AnswerClause, FaceClauses, ImageKept}
 use Rattle.rules.proofs.Tests.{both}
 use Rattle.rules.proofs.IdLaws.{id-number}
 use Rattle.rules.proofs.SoundState.{sound-pad}
@@ -37,16 +37,16 @@ answerOf n (code k) = Code k
 answerOf n (count k) = Count k
 answerOf n (governor g) = governorAnswer g
 
-read-back : (a : Answer) → answerOf (numberOf a) (valueOf a) ≡ a
-read-back (Refused n) = refl
-read-back (Code k) = refl
-read-back (Count k) = refl
-read-back (Holder i) = ap Holder (id-number i)
-read-back (Default p) = refl
-read-back Nobody = refl
+read-back : (a : Answer) → AnswerFits a → answerOf (numberOf a) (valueOf a) ≡ a
+read-back (Refused n) f = refl
+read-back (Code k) f = refl
+read-back (Count k) f = refl
+read-back (Holder i) f = ap Holder (id-number i f)
+read-back (Default p) f = refl
+read-back Nobody f = refl
 
 pub answer-clause : AnswerClause
-answer-clause = record { apart = λ a b m n. sym (read-back a) ∙ ap₂ answerOf m n ∙ read-back b }
+answer-clause = record { apart = λ a b f g m n. sym (read-back a f) ∙ ap₂ answerOf m n ∙ read-back b g }
 
 -- Ids in answers: a question alone may give one.
 

@@ -11,7 +11,7 @@ use Rattle.rules.specs.declared.Program.{Program}
 use Rattle.rules.specs.declared.Entry.{Entry}
 use Rattle.rules.specs.declared.Schedule.{Schedule}
 use Rattle.rules.specs.Lists.{All}
-use Rattle.rules.specs.Records.{mostPrograms, mostEvents, idNumber}
+use Rattle.rules.specs.Records.{mostPrograms, mostEvents}
 use Rattle.rules.proofs.Entries.{FitsEntry}
 use Rattle.rules.proofs.Images.{FitsProgram, FitsSchedule}
 use Rattle.rules.proofs.Program as program
@@ -36,7 +36,6 @@ pub program-fits : (p : Program) (vs : List Val) → Owned program.the-field p v
 program-fits p vs s = search needs
 
 pub entry-fits : (h : Entry) (vs : List Val) → Owned entry.the-field h vs → FitsEntry h
-unfolding idNumber
 entry-fits h vs s = search needs
 
 pub schedule-fits : (s : Schedule) (vs : List Val) → Owned schedule.the-field s vs → FitsSchedule s

@@ -15,7 +15,7 @@ use Rattle.rules.specs.declared.Program.{Program}
 use Rattle.rules.specs.declared.Schedule.{Schedule}
 use Rattle.rules.specs.Lists.{keep, over, In}
 use Rattle.rules.specs.Records.{State, idOf, lastClock, programAt, fresh, pad}
-use Rattle.rules.specs.Period.{effectiveEnd}
+use Rattle.rules.specs.Period.{drawnStart, effectiveEnd}
 use Rattle.rules.specs.Moments.{passed}
 use Rattle.rules.specs.Bytes.{bytes, rowSize}
 use Rattle.rules.specs.Sound.{malformed, sameEvent}
@@ -29,24 +29,28 @@ use Rattle.rules.proofs.Local.{timedId, cancelTimed, cancel-before, cho
 use Rattle.rules.proofs.Second.{heard-on, advance-state, advance-rows}
 use Rattle.rules.proofs.Kept.{Kept, ends, begins-later, late-not, over-before, new, kept-deliver, entries-deliver, kept-cancel, entries-cancel, kept-choose, entries-choose, kept-program, ranked, entries-program}
 use Rattle.rules.proofs.RowBytes.{bytes-append, bytes-read}
-use Rattle.rules.proofs.SoundState.{Sound, same-event}
+use Rattle.rules.proofs.SoundState.{Sound, same-fields}
 use Rattle.rules.proofs.SoundKept.{sound-does, sound-fresh, refusal-pad, call-pad}
-use Rattle.rules.proofs.CallLaws.{event-same}
 
 -- Records that were brought before.
 
-known-in : (e : Event) (bs : List Brought) → known e bs ≡ true → (b : Brought) × In b bs × (b .event ≡ e)
+known-in : (e : Event) (bs : List Brought) → known e bs ≡ true → (b : Brought) × In b bs × (sameEvent (b .event) e ≡ true)
 known-in e [] k = both false k refl
 known-in e (b ∷ bs) k = go (sameEvent (b .event) e) refl k (known-in e bs)
   where
-    go : (x : Bool) → sameEvent (b .event) e ≡ x → (x || known e bs) ≡ true → (known e bs ≡ true → (b : Brought) × In b bs × (b .event ≡ e))
-        → (c : Brought) × In c (b ∷ bs) × (c .event ≡ e)
-    go true p k ih = (b, inl refl, same-event (b .event) e p)
+    go : (x : Bool) → sameEvent (b .event) e ≡ x → (x || known e bs) ≡ true → (known e bs ≡ true → (b : Brought) × In b bs × (sameEvent (b .event) e ≡ true))
+        → (c : Brought) × In c (b ∷ bs) × (sameEvent (c .event) e ≡ true)
+    go true p k ih = (b, inl refl, p)
     go false p k ih = let r = ih k in (r .0, inr (r .1), r .2)
 
-in-known : (e : Event) (bs : List Brought) (b : Brought) → In b bs → b .event ≡ e → known e bs ≡ true
-in-known e (x ∷ bs) b (inl q) d = rw (sym (ap (λ b. b .event) q) ∙ d, event-same e)
+in-known : (e : Event) (bs : List Brought) (b : Brought) → In b bs → sameEvent (b .event) e ≡ true → known e bs ≡ true
+in-known e (x ∷ bs) b (inl q) d = rw (sym (ap (λ (b : Brought). sameEvent (b .event) e) q) ∙ d)
 in-known e (x ∷ bs) b (inr m) d = rw (in-known e bs b m d, or-true)
+
+-- the same record ends at the same moment
+same-end : (a b : Event) → sameEvent a b ≡ true → effectiveEnd a ≡ effectiveEnd b
+unfolding effectiveEnd drawnStart
+same-end a b e = ap effectiveEnd (same-fields a b e .1)
 
 -- each program has a number of its own, at most 7
 abbrev pub OnceEach : List Added → Type 0
@@ -98,12 +102,13 @@ module _ (H : History) (v : Inv H) where
       go true q ih = inl (cc)
       go false q ih = inr (ih q)
 
-  again-known : (e : Event) (h : Entry) → In h (heldEvents ps ts c) → h .event ≡ e → known e (H .brought) ≡ true
+  again-known : (e : Event) (h : Entry) → In h (heldEvents ps ts c) → sameEvent (h .event) e ≡ true → known e (H .brought) ≡ true
   unfolding heldEvents
   again-known e h m d =
       let r = in-map (seen ps ts c) h (keep (living c) ts) m in
       let b = in-map timed (r .0) (H .brought) (in-keep (living c) (r .0) ts (r .1) .0) in
-      in-known e (H .brought) (b .0) (b .1) (sym (ap (λ x. x .event) (b .2)) ∙ sym (ap (λ x. x .event) (r .2)) ∙ d)
+      let e' : h .event ≡ b .0 .event = ap (λ x. x .event) (r .2) ∙ ap (λ x. x .event) (b .2) in
+      in-known e (H .brought) (b .0) (b .1) (sym (ap (λ x. sameEvent x e) e') ∙ d)
 
   -- a record that is not held and not late was never brought
   new-unknown : (e : Event) → find (idOf e) (heldEvents ps ts c) ≡ none → late c e ≡ false → known e (H .brought) ≡ false
@@ -113,8 +118,8 @@ module _ (H : History) (v : Inv H) where
       go false k = refl
       go true k =
           let b = known-in e (H .brought) k in
-          let over : ends (timed (b .0)) ≤ c = over-before ps ts c e f (timed (b .0)) (map-in timed (b .0) (H .brought) (b .1)) (ap idOf (b .2)) in
-          absurd (omega (arith, late-not e c l, over, ap effectiveEnd (b .2)))
+          let over : ends (timed (b .0)) ≤ c = over-before ps ts c e f (timed (b .0)) (map-in timed (b .0) (H .brought) (b .1)) (same-fields (b .0 .event) e (b .2) .0) in
+          absurd (omega (arith, late-not e c l, over, same-end (b .0 .event) e (b .2)))
 
   next-deliver : (e : Event) (o : Option Entry) → find (idOf e) (heldEvents ps ts c) ≡ o → eqb (firstOf (eventChecks (stateOf H) e o)) 0 ≡ true
       → Next H (receive (stateOf H) e o) [] (record { programs = H .programs; brought = bring e c (H .brought); last = c })
@@ -124,8 +129,7 @@ module _ (H : History) (v : Inv H) where
       let r6 = first-not 6 (not (programAt ps (e .program) .added)) _ refl (r3 .1) in
       let r7 = first-not 7 (malformed e) _ refl (r6 .1) in
       let r8 = first-not 8 (not (sameEvent (h .event) e)) _ refl (r7 .1) in
-      let d : h .event ≡ e = same-event (h .event) e (not-false (sameEvent (h .event) e) (r8 .0)) in
-      rw (again-known e h (found-brought e h (heldEvents ps ts c) f) d) (stay H v)
+      rw (again-known e h (found-brought e h (heldEvents ps ts c) f) (not-false (sameEvent (h .event) e) (r8 .0))) (stay H v)
   next-deliver e none f ok =
       let r3 = first-not 3 (ltb 7 (e .program)) _ refl ok in
       let r6 = first-not 6 (not (programAt ps (e .program) .added)) _ refl (r3 .1) in

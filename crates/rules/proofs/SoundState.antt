@@ -8,6 +8,7 @@ use lib.Dec.{leb, ltb, eqb}
 use lib.ListN.{length, take, drop, replicate, take-append-drop, length-append, length-drop, length-take, length-replicate}
 use lib.Seq.{take-append-seam, drop-append-seam}
 use borrow.Author.Tests.{le-leb, leb-true, leb-false, lt-ltb, ltb-true, eq-eqb, ne-eqb, eqb-true, eqb-false, not-true}
+use Rattle.rules.specs.declared.Id.{Id}
 use Rattle.rules.specs.declared.Event.{Event}
 use Rattle.rules.specs.declared.Entry.{Entry}
 use Rattle.rules.specs.declared.Program.{Program}
@@ -20,7 +21,7 @@ use Rattle.rules.specs.Sound.{malformed, sameEvent, whole, withinLimits,
 use Rattle.rules.specs.Calls.{entryId}
 use Rattle.rules.specs.Arrival.{Apart, OneHolder}
 use Rattle.rules.proofs.Tests.{either-false, each-true}
-use Rattle.rules.proofs.IdLaws.{same-id}
+use Rattle.rules.proofs.IdLaws.{number-id, zero-number}
 use Rattle.rules.proofs.ListLaws.{each-all, all-each, pairs-pairwise, pairwise-pairs, replicated}
 use Rattle.rules.proofs.Masks.{cut-apart, apart-cut, cut-within, within-cut}
 
@@ -185,9 +186,26 @@ true-apart : (h o : Entry) → apart h o ≡ true → Apart h o
 unfolding apart
 true-apart h o e = apart-cut (h .held) (o .held) (eqb-true (cut (h .held) (o .held)) (h .held) e)
 
-pub same-event : (a b : Event) → sameEvent a b ≡ true → a ≡ b
+-- an event under another id
+abbrev pub renamed : Id → Event → Event
+renamed i e =
+    record {
+      id = i;
+      program = e .program;
+      controls = e .controls;
+      created = e .created;
+      start = e .start;
+      duration = e .duration;
+      «randomize_start» = e .«randomize_start»;
+      «randomize_duration» = e .«randomize_duration»;
+      «start_draw» = e .«start_draw»;
+      «duration_draw» = e .«duration_draw»;
+    }
+
+-- events that pass the test have ids of the same number, and are the same but for that
+pub same-fields : (a b : Event) → sameEvent a b ≡ true → (idOf a ≡ idOf b) × (a ≡ renamed (a .id) b)
 unfolding sameEvent
-same-event a b e =
+same-fields a b e =
     let r9 = each-true _ (eqb (a .«duration_draw») (b .«duration_draw»)) e in
     let r8 = each-true _ (eqb (a .«start_draw») (b .«start_draw»)) (r9 .0) in
     let r7 = each-true _ (eqb (a .«randomize_duration») (b .«randomize_duration»)) (r8 .0) in
@@ -196,19 +214,25 @@ same-event a b e =
     let r4 = each-true _ (eqb (a .start) (b .start)) (r5 .0) in
     let r3 = each-true _ (eqb (a .created) (b .created)) (r4 .0) in
     let r2 = each-true _ (eqb (a .controls) (b .controls)) (r3 .0) in
-    let r1 = each-true (eqb (idOf a) (idOf b)) (eqb (a .program) (b .program)) (r2 .0) in
-    λ i. record {
-      id = same-id (a .id) (b .id) (eqb-true (idOf a) (idOf b) (r1 .0)) i;
-      program = eqb-true (a .program) (b .program) (r1 .1) i;
-      controls = eqb-true (a .controls) (b .controls) (r2 .1) i;
-      created = eqb-true (a .created) (b .created) (r3 .1) i;
-      start = eqb-true (a .start) (b .start) (r4 .1) i;
-      duration = eqb-true (a .duration) (b .duration) (r5 .1) i;
-      «randomize_start» = eqb-true (a .«randomize_start») (b .«randomize_start») (r6 .1) i;
-      «randomize_duration» = eqb-true (a .«randomize_duration») (b .«randomize_duration») (r7 .1) i;
-      «start_draw» = eqb-true (a .«start_draw») (b .«start_draw») (r8 .1) i;
-      «duration_draw» = eqb-true (a .«duration_draw») (b .«duration_draw») (r9 .1) i;
-    }
+    let r1 = each-true (eqb (idOf a) (idOf b)) (eqb (a .program) (b .program)) (r2 .0) in (
+      eqb-true (idOf a) (idOf b) (r1 .0),
+      λ i. record {
+        id = a .id;
+        program = eqb-true (a .program) (b .program) (r1 .1) i;
+        controls = eqb-true (a .controls) (b .controls) (r2 .1) i;
+        created = eqb-true (a .created) (b .created) (r3 .1) i;
+        start = eqb-true (a .start) (b .start) (r4 .1) i;
+        duration = eqb-true (a .duration) (b .duration) (r5 .1) i;
+        «randomize_start» = eqb-true (a .«randomize_start») (b .«randomize_start») (r6 .1) i;
+        «randomize_duration» = eqb-true (a .«randomize_duration») (b .«randomize_duration») (r7 .1) i;
+        «start_draw» = eqb-true (a .«start_draw») (b .«start_draw») (r8 .1) i;
+        «duration_draw» = eqb-true (a .«duration_draw») (b .«duration_draw») (r9 .1) i;
+      },
+    )
+
+-- so they are the same, if their number says which id it is
+pub same-event : (a b : Event) → sameEvent a b ≡ true → (idOf a ≡ idOf b → a .id ≡ b .id) → a ≡ b
+same-event a b e number = let r = same-fields a b e in r .1 ∙ ap (λ i. renamed i b) (number (r .0))
 
 pub true-unused : (h : Entry) → unused h ≡ true → h ≡ noEntry
 unfolding unused
@@ -220,7 +244,7 @@ true-unused h e =
     let r5 = each-true (not (h .choice .out)) (not (anyCounted (h .choice))) (r4 .1) in
     let w = either-false (h .choice .«was_in») (h .choice .«was_out») (not-true (anyCounted (h .choice)) (r5 .1)) in
     λ i. record {
-      event = same-event (h .event) noEvent (r1 .0) i;
+      event = same-event (h .event) noEvent (r1 .0) (λ n. zero-number (h .event .id) (n ∙ number-id 0)) i;
       begins = eqb-true (h .begins) 0 (r2 .0) i;
       held = eqb-true (h .held) 0 (r3 .0) i;
       cancelled = not-true (h .cancelled) (r4 .0) i;

@@ -17,7 +17,7 @@ use Rattle.rules.specs.Calls.{bestDefault, holderIn, answerFor, does, ch
 use Rattle.rules.specs.Frames.{digit, paired, unhex, isFrame, frameOf, lineOf}
 use Rattle.rules.specs.Printed.{linesOf, decimal, rowsText, output}
 use Rattle.rules.specs.LineTable.{lineTable, linesHold}
-use Rattle.rules.specs.TextTable.{textInput, textOutput, endingsHold, TextTables}
+use Rattle.rules.specs.TextTable.{textInput, textOutput, endingsHold, digitsHold, TextTables}
 use Rattle.rules.specs.Script.{scriptsHold}
 use Rattle.rules.specs.CallTable.{callTable, answersHold, CallTables}
 use Rattle.rules.specs.Schedules.{holding, rowsTo, heldEvents}
@@ -55,11 +55,16 @@ endings-evaluate : endingsHold (λ input. quickTellAll fresh (linesOf input)) �
 unfolding endingsHold digit paired unhex isFrame frameOf lineOf read eventAt quickTellAll quickTellFrame quickCall quickChecks quickDoes has programChecks askChecks bestDefault holderIn answerFor does checks linesOf decimal idNumber idFrom
 endings-evaluate = refl
 
+digits-evaluate : digitsHold ≡ true
+unfolding digitsHold decimal
+digits-evaluate = refl
+
 pub text-tables : TextTables
 text-tables =
     record {
       texts = output-quick textInput ∙ same-lists (quickTellAll fresh (linesOf textInput)) textOutput texts-evaluate;
       endings = ap endingsHold (fun-ext output-quick) ∙ endings-evaluate;
+      digits = digits-evaluate;
     }
 
 rules-evaluate : rulesHold ruleTable ≡ true

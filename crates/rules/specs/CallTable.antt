@@ -16,9 +16,14 @@ use Rattle.rules.specs.Calls.{addProgram, deliver, cancel, optOut, optIn
 use Rattle.rules.specs.Script.{valueNumbers, Step, scriptsHold, _answers_, _refused_}
 use Rattle.rules.specs.Marks.{minus, undrawn, choice, unheld, stayedIn, same, replies}
 
--- a row's bytes, of a time below 65,536 and an id below 256
+-- a row's bytes, of a time below 65,536 and an id by the first and the last byte of its upper half and the last of its lower half, all others zero
+abbrev rowOf : ℕ → ℕ → ℕ → ℕ → ℕ → List ℕ
+rowOf t top high low k =
+    0 ∷ 0 ∷ 0 ∷ 0 ∷ 0 ∷ 0 ∷ t / 256 ∷ t % 256 ∷ top ∷ 0 ∷ 0 ∷ 0 ∷ 0 ∷ 0 ∷ 0 ∷ high ∷ 0 ∷ 0 ∷ 0 ∷ 0 ∷ 0 ∷ 0 ∷ 0 ∷ low ∷ k ∷ []
+
+-- of an id below 256
 abbrev row : ℕ → ℕ → ℕ → List ℕ
-row t i k = 0 ∷ 0 ∷ 0 ∷ 0 ∷ 0 ∷ 0 ∷ t / 256 ∷ t % 256 ∷ 0 ∷ 0 ∷ 0 ∷ 0 ∷ 0 ∷ 0 ∷ 0 ∷ i ∷ k ∷ []
+row t i k = rowOf t 0 0 i k
 
 -- a reading into a buffer of `room` bytes, all 77: how many rows, their bytes, and how many bytes stay as they were
 abbrev reads : ℕ → ℕ → ℕ → List ℕ → ℕ → Step
@@ -57,7 +62,7 @@ codes =
     ∷ (deliver narrow answers code 1)
     ∷ reads 5000 0 0 [] 0
     ∷ (cancel 2 answers code 0)
-    ∷ reads 5050 18 1 (row 5050 1 2) 1
+    ∷ reads 5050 26 1 (row 5050 1 2) 1
     ∷ listing 3 2 (listedAs narrow 5050 1 false stayedIn 5050 ∷ listedAs wide 5000 0 true unheld 5000 ∷ []) 1
     ∷ (cancel 1 answers code 6)
     ∷ listing 2 2 (listedAs narrow 5050 0 true stayedIn 5050 ∷ listedAs wide 5000 0 true unheld 5000 ∷ []) 0
@@ -77,16 +82,16 @@ holders =
     ∷ (ask 0 answers default 1)
     ∷ (ask 1 answers nobody)
     ∷ (ask 2 answers default 1)
-    ∷ reads 5049 17 1 (row 5000 2 2) 0
+    ∷ reads 5049 25 1 (row 5000 2 2) 0
     ∷ (ask 0 answers holder 2)
     ∷ (ask 1 answers holder 2)
     ∷ listing 4 2 (listedAs narrow 5050 0 false unheld 5050 ∷ listedAs wide 5000 3 false stayedIn 5000 ∷ []) 2
-    ∷ reads 5050 20 1 (row 5050 1 2) 3
+    ∷ reads 5050 28 1 (row 5050 1 2) 3
     ∷ (ask 0 answers holder 1)
     ∷ (ask 1 answers holder 2)
     ∷ listing 2 2 (listedAs narrow 5050 1 false stayedIn 5050 ∷ listedAs wide 5000 2 false stayedIn 5000 ∷ []) 0
-    ∷ (setClock 5150 (replicate 33 77) refused 13)
-    ∷ reads 5150 34 2 (row 5100 2 3 ++ row 5150 1 3) 0
+    ∷ (setClock 5150 (replicate 49 77) refused 13)
+    ∷ reads 5150 50 2 (row 5100 2 3 ++ row 5150 1 3) 0
     ∷ (ask 0 answers default 1)
     ∷ listing 1 0 [] 1
     ∷ []
@@ -123,9 +128,9 @@ moment =
     ∷ (deliver (undrawn 20 1 8 0 5000 200) answers code 1)
     ∷ (deliver (undrawn 50 0 4 0 5100 200) answers code 1)
     ∷ (deliver (undrawn 5 0 8 0 5100 200) answers code 1)
-    ∷ reads 5099 68 4 (row 5000 10 2 ++ (row 5000 20 2 ++ (row 5000 30 2 ++ row 5000 40 2))) 0
-    ∷ reads 5100 103 6 (row 5100 10 3 ++ (row 5100 30 3 ++ (row 5100 20 7 ++ (row 5100 40 7 ++ (row 5100 5 2 ++ row 5100 50 2))))) 1
-    ∷ reads 9000000000 34 2 (row 5300 5 3 ++ row 5300 50 3) 0
+    ∷ reads 5099 100 4 (row 5000 10 2 ++ (row 5000 20 2 ++ (row 5000 30 2 ++ row 5000 40 2))) 0
+    ∷ reads 5100 151 6 (row 5100 10 3 ++ (row 5100 30 3 ++ (row 5100 20 7 ++ (row 5100 40 7 ++ (row 5100 5 2 ++ row 5100 50 2))))) 1
+    ∷ reads 9000000000 50 2 (row 5300 5 3 ++ row 5300 50 3) 0
     ∷ []
 
 -- a cancellation at 5000: the event holds that second, gives its 2 and nothing after; a worse event is kept out that second for good, one that starts a second later is not
@@ -135,14 +140,14 @@ cancelledOne =
     ∷ (deliver (undrawn 9 0 1 0 5000 100) answers code 1)
     ∷ (deliver (undrawn 8 0 1 0 5000 100) answers code 1)
     ∷ (deliver (undrawn 7 0 1 0 5001 100) answers code 1)
-    ∷ reads 5000 34 2 (row 5000 8 7 ++ row 5000 9 2) 0
+    ∷ reads 5000 50 2 (row 5000 8 7 ++ row 5000 9 2) 0
     ∷ (ask 0 answers holder 9)
     ∷ (cancel 9 answers code 6)
     ∷ (ask 0 answers default 0)
-    ∷ reads 5001 17 1 (row 5001 7 2) 0
+    ∷ reads 5001 25 1 (row 5001 7 2) 0
     ∷ (ask 0 answers holder 7)
     ∷ listing 3 3 (listedAs (undrawn 7 0 1 0 5001 100) 5001 1 false stayedIn 5001 ∷ listedAs (undrawn 8 0 1 0 5000 100) 5000 0 false unheld 5000 ∷ listedAs (undrawn 9 0 1 0 5000 100) 5000 0 true stayedIn 5000 ∷ []) 0
-    ∷ reads 5200 17 1 (row 5101 7 3) 0
+    ∷ reads 5200 25 1 (row 5101 7 3) 0
     ∷ []
 
 -- an event first accepted after its start begins at the next second; cancelled, it is listed as it was but for its mask and its mark
@@ -153,7 +158,7 @@ afterStart =
     ∷ (deliver (undrawn 3 0 1 0 5000 100) answers code 1)
     ∷ listing 1 1 (listedAs (undrawn 3 0 1 0 5000 100) 5051 0 false unheld 5000 ∷ []) 0
     ∷ (ask 0 answers nobody)
-    ∷ reads 5051 17 1 (row 5051 3 2) 0
+    ∷ reads 5051 25 1 (row 5051 3 2) 0
     ∷ (ask 0 answers holder 3)
     ∷ (cancel 3 answers code 6)
     ∷ listing 1 1 (listedAs (undrawn 3 0 1 0 5000 100) 5051 0 true stayedIn 5000 ∷ []) 0
@@ -180,11 +185,11 @@ atTheEarliest =
     ∷ (deliver later answers code 1)
     ∷ (deliver back answers code 1)
     ∷ listing 3 2 (listedAs back 4950 0 false unheld 4800 ∷ listedAs later 5150 0 false unheld 5000 ∷ []) 1
-    ∷ reads 5160 34 2 (row 4950 1 2 ++ row 5150 2 2) 0
+    ∷ reads 5160 50 2 (row 4950 1 2 ++ row 5150 2 2) 0
     ∷ (deliver undelayed answers code 1)
     ∷ (cancel 1 answers code 6)
     ∷ listing 3 3 (listedAs back 4950 0 true stayedIn 4800 ∷ listedAs later 5150 2 false stayedIn 5000 ∷ listedAs undelayed 5161 0 false unheld 4940 ∷ []) 0
-    ∷ reads 5250 17 1 (row 5161 3 2) 0
+    ∷ reads 5250 25 1 (row 5161 3 2) 0
     ∷ listing 2 2 (listedAs later 5150 2 false stayedIn 5000 ∷ listedAs undelayed 5161 4 false stayedIn 4940 ∷ []) 0
     ∷ []
 
@@ -203,7 +208,7 @@ choosing =
     ∷ listing 1 1 (listedAs wide 5000 0 false (choice 1 0 0) 5000 ∷ []) 0
     ∷ reads 4999 0 0 [] 0
     ∷ (optIn 2 answers code 5)
-    ∷ reads 5000 17 1 (row 5000 2 2) 0
+    ∷ reads 5000 25 1 (row 5000 2 2) 0
     ∷ (optOut 2 answers code 4)
     ∷ listing 1 1 (listedAs wide 5000 3 false (choice 1 1 0) 5000 ∷ []) 0
     ∷ (ask 0 answers default 1)
@@ -211,7 +216,7 @@ choosing =
     ∷ reads 5001 0 0 [] 0
     ∷ listing 1 1 (listedAs wide 5000 3 false (choice 1 1 1) 5000 ∷ []) 0
     ∷ (deliver narrow answers code 1)
-    ∷ reads 5050 17 1 (row 5050 1 2) 0
+    ∷ reads 5050 25 1 (row 5050 1 2) 0
     ∷ (optOut 1 answers code 4)
     ∷ (optIn 1 answers code 5)
     ∷ (ask 0 answers holder 1)
@@ -222,12 +227,73 @@ choosing =
     ∷ listing 2 2 (listedAs narrow 5050 1 false stayedIn 5050 ∷ listedAs wide 5000 2 false (choice 0 1 1) 5000 ∷ []) 0
     ∷ (cancel 1 answers code 6)
     ∷ (optOut 1 answers code 4)
-    ∷ reads 5150 17 1 (row 5100 2 9) 0
+    ∷ reads 5150 25 1 (row 5100 2 9) 0
     ∷ listing 0 0 [] 0
     ∷ []
 
+-- document 02, #104: ids that agree with another in one half, in ascending order: an upper half of 0, two that share the upper half 1, the halves of the first of
+-- these exchanged, and its lower half under the top bit
+abbrev low : ℕ
+low = 0x00000000000000000000000000000002
+
+abbrev first : ℕ
+first = 0x00000000000000010000000000000002
+
+abbrev second : ℕ
+second = 0x00000000000000010000000000000003
+
+abbrev swapped : ℕ
+swapped = 0x00000000000000020000000000000001
+
+abbrev top : ℕ
+top = 0x80000000000000000000000000000002
+
+-- events that differ in their ids alone, on control 0 from 5000 to 5100
+abbrev like : ℕ → Event
+like i = undrawn i 0 1 0 5000 100
+
+-- listed with a held mask, a mark and a choice
+abbrev likeListed : ℕ → ℕ → Bool → Choice → Record
+likeListed i held gone c = listedAs (like i) 5000 held gone c 5000
+
+-- document 02, #104: ties and order go by all 128 bits, unsigned, and a cancellation or a choice is of one event alone
+abbrev wideIds : List Step
+wideIds =
+    (addProgram 0 0 0 answers code 0)
+    ∷ (deliver (like swapped) answers code 1)
+    ∷ (deliver (like top) answers code 1)
+    ∷ (deliver (like low) answers code 1)
+    ∷ (deliver (like second) answers code 1)
+    ∷ (deliver (like first) answers code 1)
+    ∷ (deliver (like first) answers code 0)
+    ∷ (cancel first answers code 6)
+    ∷ (cancel first answers code 0)
+    ∷ (optOut second answers code 4)
+    ∷ listing 5 5 (
+    likeListed low 0 false unheld ∷ likeListed first 0 true unheld ∷ likeListed second 0 false (choice 1 0 0) ∷ likeListed swapped 0 false unheld ∷ likeListed top 0 false unheld ∷ []
+    ) 0
+    ∷ reads 5000 100 4 (rowOf 5000 0 0 2 7 ++ (rowOf 5000 0 1 3 7 ++ (rowOf 5000 0 2 1 7 ++ rowOf 5000 0x80 0 2 2))) 0
+    ∷ (ask 0 answers holder top)
+    ∷ []
+
+-- the same events two at a time: of two that agree in a half the one with the larger other half holds the control, and the halves exchanged the one with the larger upper half
+abbrev contest : ℕ → ℕ → List ℕ → List Step
+contest a b rows =
+    (addProgram 0 0 0 answers code 0)
+    ∷ (deliver (like a) answers code 1)
+    ∷ (deliver (like b) answers code 1)
+    ∷ reads 5000 50 2 rows 0
+    ∷ (ask 0 answers holder a)
+    ∷ []
+
 unfoldable pub callTable : List (List Step)
-callTable = codes ∷ holders ∷ defaultsOf ∷ moment ∷ cancelledOne ∷ afterStart ∷ atTheEarliest ∷ choosing ∷ []
+callTable =
+    codes ∷ holders ∷ defaultsOf ∷ moment ∷ cancelledOne ∷ afterStart ∷ atTheEarliest ∷ choosing ∷ wideIds
+    ∷ contest first low (rowOf 5000 0 0 2 7 ++ rowOf 5000 0 1 2 2)
+    ∷ contest second first (rowOf 5000 0 1 2 7 ++ rowOf 5000 0 1 3 2)
+    ∷ contest swapped second (rowOf 5000 0 1 3 7 ++ rowOf 5000 0 2 1 2)
+    ∷ contest top swapped (rowOf 5000 0 2 1 7 ++ rowOf 5000 0x80 0 2 2)
+    ∷ []
 
 -- the number and the value of each answer
 abbrev answerNumbers : Answer → List ℕ
@@ -245,6 +311,7 @@ answersHold =
     && same (answerNumbers (Code 6)) (0 ∷ valueNumbers (code 6))
     && same (answerNumbers (Count 96)) (0 ∷ valueNumbers (count 96))
     && same (answerNumbers (Holder (idFrom 9))) (0 ∷ valueNumbers (holder 9))
+    && same (answerNumbers (Holder (record { high = 1; low = 2 }))) (0 ∷ valueNumbers (holder first))
     && same (answerNumbers (Default 7)) (0 ∷ valueNumbers (default 7))
     && same (answerNumbers Nobody) (0 ∷ valueNumbers nobody)
     && same (map counted (nothing ∷ code 6 ∷ count 96 ∷ holder 9 ∷ default 7 ∷ nobody ∷ [])) (0 ∷ 0 ∷ 96 ∷ 0 ∷ 0 ∷ 0 ∷ [])

@@ -10,12 +10,13 @@ use lib.Dec.{eqb}
 use lib.ListN.{length}
 use Rattle.rules.specs.declared.Event.{Event}
 use Rattle.rules.specs.declared.Answer.{Answer}
+use Rattle.rules.specs.declared.Answer.the-variants.{Refused, Code, Count, Holder, Default, Nobody}
 use Rattle.rules.specs.declared.Entry.{Entry}
 use Rattle.rules.specs.declared.Program.{Program}
 use Rattle.rules.specs.declared.Record.{Record}
 use Rattle.rules.specs.declared.Schedule.{Schedule}
 use Rattle.rules.specs.Lists.{In, All, Pairwise}
-use Rattle.rules.specs.Records.{State, idOf, has, differ, lastClock, mostEvents, mostRows, programAt, fresh, view, pad}
+use Rattle.rules.specs.Records.{State, idOf, IdFits, has, differ, lastClock, mostEvents, mostRows, programAt, fresh, view, pad}
 use Rattle.rules.specs.Period.{lift, drawnStart, effectiveEnd, earliestStart, periodOf}
 use Rattle.rules.specs.Holding.{Rank, rankOf, better, heldAt, Holding, endOf, remarked}
 use Rattle.rules.specs.Rows.{Row, codeAt, ending, Sooner}
@@ -235,8 +236,9 @@ pub record CallClauses : Type 0 where
   -- an event given again, every field the same, is accepted and changes nothing
   pub again : (s : Schedule) (h : Entry) → sound s ≡ true → In h (view s .entries)
       → call s (deliver (h .event)) ≡ record { number = 0; value = code 0; state = s; bytes = []; records = [] }
-  -- an event with another field under a held id, a fresh draw too, is never accepted
-  pub redrawn : (s : Schedule) (h : Entry) (e : Event) → sound s ≡ true → In h (view s .entries) → idOf (h .event) ≡ idOf e → (h .event ≡ e → ⊥)
+  -- an event with another field under a held id, a fresh draw too, is never accepted; the halves of both ids fit, as those of every id by value do
+  pub redrawn : (s : Schedule) (h : Entry) (e : Event) → sound s ≡ true → In h (view s .entries) → IdFits (h .event .id) → IdFits (e .id) → idOf (h .event) ≡ idOf e
+      → (h .event ≡ e → ⊥)
       → call s (deliver e) .number ≡ 0 → ⊥
   -- a cancellation of a held event gives code 6, or 0 if it was cancelled before
   pub cancelled : (s : Schedule) (h : Entry) → sound s ≡ true → In h (view s .entries)
@@ -287,9 +289,18 @@ pub record DefaultClause : Type 0 where
   -- else none
   pub nobody : (ps : List Program) (c : ℕ) → bestDefault c 0 ps ≡ none ↔ ((n : ℕ) → Offers ps c n → ⊥)
 
+-- the halves of an id in an answer fit, as those of every answer by value do
+abbrev pub AnswerFits : Answer → Type 0
+AnswerFits (Refused n) = Unit {0}
+AnswerFits (Code k) = Unit {0}
+AnswerFits (Count n) = Unit {0}
+AnswerFits (Holder i) = IdFits i
+AnswerFits (Default p) = Unit {0}
+AnswerFits Nobody = Unit {0}
+
 -- Form by location, answers that are enums: their numbers and values tell them apart
 pub record AnswerClause : Type 0 where
-  pub apart : (a b : Answer) → numberOf a ≡ numberOf b → valueOf a ≡ valueOf b → a ≡ b
+  pub apart : (a b : Answer) → AnswerFits a → AnswerFits b → numberOf a ≡ numberOf b → valueOf a ≡ valueOf b → a ≡ b
 
 -- Frames and image, C hosts
 pub record FaceClauses : Type 0 where

@@ -26,10 +26,31 @@ abbrev after : List Call → Call → ℕ → Edge
 after calls c n = record { before = program ∷ calls; last = c; number = n }
 
 abbrev clock : ℕ → Call
-clock t = setClock t (replicate 1632 0)
+clock t = setClock t (replicate 2400 0)
 
 abbrev records : ℕ → List Call → Call → ℕ → Edge
 records n calls c k = after (others n ++ calls) c k
+
+-- document 02, #104: an id, and three that agree with it in the lower half, in the upper half, and with the halves exchanged
+abbrev twin : ℕ
+twin = 0x00000000000000010000000000000002
+
+abbrev otherUpper : ℕ
+otherUpper = 0x00000000000000030000000000000002
+
+abbrev otherLower : ℕ
+otherLower = 0x00000000000000010000000000000003
+
+abbrev exchanged : ℕ
+exchanged = 0x00000000000000020000000000000001
+
+-- an event under an id, from 5000 to 5601
+abbrev named : ℕ → Event
+named i = undrawn i 0 1 0 5000 601
+
+-- while the first of these ids is held by an event from 5000 to 5600
+abbrev beside : Call → ℕ → Edge
+beside c n = after (deliver (undrawn twin 0 1 0 5000 600) ∷ []) c n
 
 unfoldable pub edges : List Edge
 edges =
@@ -106,14 +127,26 @@ edges =
     ∷ after (deliver (plain 5000 600) ∷ clock 5599 ∷ []) (optIn 1) 0
     ∷ after (deliver (plain 5000 600) ∷ clock 5600 ∷ []) (optOut 1) 11
     ∷ after (deliver (plain 5000 600) ∷ clock 5600 ∷ []) (optIn 1) 11
+    -- #104: an id is held by all its bits: others that agree with it in one half are not held, and come in beside it
+    ∷ beside (deliver (named twin)) 8
+    ∷ beside (deliver (named otherUpper)) 0
+    ∷ beside (deliver (named otherLower)) 0
+    ∷ beside (deliver (named exchanged)) 0
+    ∷ beside (cancel twin) 0
+    ∷ beside (cancel otherUpper) 11
+    ∷ beside (cancel otherLower) 11
+    ∷ beside (cancel exchanged) 11
+    ∷ beside (optOut twin) 0
+    ∷ beside (optOut otherUpper) 11
+    ∷ beside (optIn otherLower) 11
     -- 12: before the clock, the clock, the last reading and the next
     ∷ after (clock 100 ∷ []) (clock 99) 12
     ∷ after (clock 100 ∷ []) (clock 100) 0
     ∷ after [] (clock 9000000000) 0
     ∷ after [] (clock 9000000001) 12
-    -- 13: two rows are 34 bytes; two held events are two records
-    ∷ after (deliver (plain 5000 600) ∷ []) (setClock 5600 (replicate 34 0)) 0
-    ∷ after (deliver (plain 5000 600) ∷ []) (setClock 5600 (replicate 33 0)) 13
+    -- 13: two rows are 50 bytes; two held events are two records
+    ∷ after (deliver (plain 5000 600) ∷ []) (setClock 5600 (replicate 50 0)) 0
+    ∷ after (deliver (plain 5000 600) ∷ []) (setClock 5600 (replicate 49 0)) 13
     ∷ after (deliver (plain 5000 600) ∷ []) (setClock 9000000001 []) 12
     ∷ records 2 [] (list (replicate 2 (recordOf noEntry))) 0
     ∷ records 2 [] (list (replicate 1 (recordOf noEntry))) 13

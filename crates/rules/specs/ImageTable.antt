@@ -11,7 +11,7 @@ use Rattle.rules.specs.declared.Entry.{Entry}
 use Rattle.rules.specs.declared.Program.{Program}
 use Rattle.rules.specs.declared.Schedule.{Schedule}
 use Rattle.rules.specs.Lists.{overAt}
-use Rattle.rules.specs.Records.{mostEvents, mostPrograms, lastProgram, mostControls, lastControl, mostRows, idSize, idLimit, noProgram, noEntry, eventOf}
+use Rattle.rules.specs.Records.{mostEvents, mostPrograms, lastProgram, mostControls, lastControl, mostRows, halfSize, idSize, halfLimit, idLimit, noProgram, noEntry, eventOf}
 use Rattle.rules.specs.Rows.{Row}
 use Rattle.rules.specs.Bytes.{rowSize, rowsSize, rowBytes, eventSize, entrySize, markAt, choiceAt, recordSize}
 use Rattle.rules.specs.Sound.{sound}
@@ -120,6 +120,7 @@ ruleTable =
     -- an unused event place is zero, in each of its fields
     ∷ good (behind noEntry)
     ∷ broken (behind (entryAs (eventOf 1 0 0 0 0 0 0 0 0 0) 0 0 false unheld))
+    ∷ broken (behind (entryAs (eventOf halfLimit 0 0 0 0 0 0 0 0 0) 0 0 false unheld))
     ∷ broken (behind (entryAs (eventOf 0 1 0 0 0 0 0 0 0 0) 0 0 false unheld))
     ∷ broken (behind (entryAs (eventOf 0 0 1 0 0 0 0 0 0 0) 0 0 false unheld))
     ∷ broken (behind (entryAs (eventOf 0 0 0 1 0 0 0 0 0 0) 0 0 false unheld))
@@ -143,6 +144,11 @@ ruleTable =
     ∷ broken (holds (begun 1 1 0 ∷ begun 1 1 0 ∷ []))
     ∷ broken (holds (begun 2 1 0 ∷ begun 1 1 0 ∷ []))
     ∷ broken (holds (begun 2 1 0 ∷ begun 3 1 0 ∷ begun 2 1 0 ∷ []))
+    -- #104: by all 128 bits: an upper half decides before the lower one, and its top bit is no sign
+    ∷ good (holds (begun 0x00000000000000000000000000000002 1 0 ∷ begun 0x00000000000000010000000000000001 1 0 ∷ begun 0x00000000000000010000000000000002 1 0 ∷ begun 0x80000000000000000000000000000000 1 0 ∷ []))
+    ∷ broken (holds (begun 0x00000000000000010000000000000001 1 0 ∷ begun 0x00000000000000000000000000000002 1 0 ∷ []))
+    ∷ broken (holds (begun 0x00000000000000010000000000000002 1 0 ∷ begun 0x00000000000000010000000000000001 1 0 ∷ []))
+    ∷ broken (holds (begun 0x80000000000000000000000000000000 1 0 ∷ begun 0x00000000000000010000000000000002 1 0 ∷ []))
     -- events pass 3 and 6: the last program, one that was not added, one that is none
     ∷ good (schedule 5000 1 (program true 1 0) (entryAs (eventOf 1 7 1 0 4900 200 0 0 0 0) 4900 1 false stayedIn ∷ []))
     ∷ broken (schedule 5000 1 noProgram (entryAs (eventOf 1 7 1 0 4900 200 0 0 0 0) 4900 1 false stayedIn ∷ []))
@@ -262,10 +268,10 @@ abbrev layout : Schedule
 layout =
     raw 0x0102030405060708 0x09
     (program true 0x0A 0x0B0C0D0E ∷ program false 0x0F 0x10111213 ∷ (replicate 5 noProgram ++ (program true 0x14 0x15161718 ∷ [])))
-    (entryAs (eventOf 0x2122232425262728 0x29 0x2A2B2C2D 0x2E2F3031 0x32333435 0x36373839 0x3A3B 0x3C3D 0x3E3F 0x4041) 0x4243444546474849 0x4A4B4C4D true (choice 1 0 0)
-    ∷ entryAs (eventOf 0x5152535455565758 0x59 0x5A5B5C5D 0x5E5F6061 0x62636465 0x66676869 0x6A6B 0x6C6D 0x6E6F 0x7071) 0x7273747576777879 0x7A7B7C7D false (choice 0 1 0)
+    (entryAs (eventOf 0x191A1B1C1D1E1F202122232425262728 0x29 0x2A2B2C2D 0x2E2F3031 0x32333435 0x36373839 0x3A3B 0x3C3D 0x3E3F 0x4041) 0x4243444546474849 0x4A4B4C4D true (choice 1 0 0)
+    ∷ entryAs (eventOf 0x4E4F505152535455565758595A5B5C5D 0x5E 0x5F606162 0x63646566 0x6768696A 0x6B6C6D6E 0x6F70 0x7172 0x7374 0x7576) 0x7778797A7B7C7D7E 0x7F808182 false (choice 0 1 0)
     ∷ (replicate 45 noEntry
-    ++ (entryAs (eventOf 0x8182838485868788 0x89 0x8A8B8C8D 0x8E8F9091 0x92939495 0x96979899 0x9A9B 0x9C9D 0x9E9F 0xA0A1) 0xA2A3A4A5A6A7A8A9 0xAAABACAD true (choice 1 0 1) ∷ [])))
+    ++ (entryAs (eventOf 0x838485868788898A8B8C8D8E8F909192 0x93 0x94959697 0x98999A9B 0x9C9D9E9F 0xA0A1A2A3 0xA4A5 0xA6A7 0xA8A9 0xAAAB) 0xACADAEAFB0B1B2B3 0xB4B5B6B7 true (choice 1 0 1) ∷ [])))
 
 -- n numbers one after the other, from x on
 abbrev from : ℕ → ℕ → List ℕ
@@ -277,7 +283,7 @@ abbrev layoutBytes : List ℕ
 layoutBytes =
     from 0x01 9
     ++ (1 ∷ from 0x0A 5 ++ (0 ∷ from 0x0F 5 ++ (replicate 30 0 ++ (1 ∷ from 0x14 5
-    ++ (from 0x21 45 ++ (1 ∷ 1 ∷ from 0x51 45 ++ (0 ∷ 2 ∷ replicate 2115 0 ++ (from 0x81 45 ++ (1 ∷ 5 ∷ [])))))))))
+    ++ (from 0x19 53 ++ (1 ∷ 1 ∷ from 0x4E 53 ++ (0 ∷ 2 ∷ replicate 2475 0 ++ (from 0x83 53 ++ (1 ∷ 5 ∷ [])))))))))
 
 -- what a schedule says where `layout` says something: clock, count, lengths, programs, the first two entries and the last
 abbrev numbers : Schedule → List ℕ
@@ -288,13 +294,13 @@ numbers s =
 
 -- a row whose bytes all differ
 abbrev rowLayout : Row
-rowLayout = record { time = 0x0102030405060708; id = 0x090A0B0C0D0E0F10; code = 0x11 }
+rowLayout = record { time = 0x0102030405060708; id = 0x090A0B0C0D0E0F101112131415161718; code = 0x19 }
 
 unfoldable pub bytesHold : Bool
 bytesHold =
     same (image layout) layoutBytes
     && same (numbers (loaded layoutBytes)) (numbers layout)
-    && same (rowBytes rowLayout) (from 1 17)
+    && same (rowBytes rowLayout) (from 1 25)
 
 -- SIZES
 
@@ -302,10 +308,11 @@ bytesHold =
 unfoldable pub sizesHold : Bool
 sizesHold =
     same (mostEvents ∷ mostPrograms ∷ lastProgram ∷ mostControls ∷ lastControl ∷ mostRows ∷ []) (48 ∷ 8 ∷ 7 ∷ 32 ∷ 31 ∷ 96 ∷ [])
-    && same (idSize ∷ idLimit ∷ rowSize ∷ rowsSize ∷ []) (8 ∷ 0x10000000000000000 ∷ 17 ∷ 1632 ∷ [])
-    && same (eventSize ∷ entrySize ∷ markAt ∷ choiceAt ∷ recordSize ∷ []) (33 ∷ 47 ∷ 45 ∷ 46 ∷ 55 ∷ [])
-    && same (programSize ∷ programsAt ∷ entriesAt ∷ imageSize ∷ []) (6 ∷ 9 ∷ 57 ∷ 2313 ∷ [])
-    && same (eventFrame ∷ idFrame ∷ clockFrame ∷ programFrame ∷ askFrame ∷ []) (34 ∷ 9 ∷ 9 ∷ 7 ∷ 2 ∷ [])
+    && same (halfSize ∷ idSize ∷ halfLimit ∷ idLimit ∷ []) (8 ∷ 16 ∷ 0x10000000000000000 ∷ 0x100000000000000000000000000000000 ∷ [])
+    && same (rowSize ∷ rowsSize ∷ []) (25 ∷ 2400 ∷ [])
+    && same (eventSize ∷ entrySize ∷ markAt ∷ choiceAt ∷ recordSize ∷ []) (41 ∷ 55 ∷ 53 ∷ 54 ∷ 63 ∷ [])
+    && same (programSize ∷ programsAt ∷ entriesAt ∷ imageSize ∷ []) (6 ∷ 9 ∷ 57 ∷ 2697 ∷ [])
+    && same (eventFrame ∷ idFrame ∷ clockFrame ∷ programFrame ∷ askFrame ∷ []) (42 ∷ 17 ∷ 9 ∷ 7 ∷ 2 ∷ [])
 
 -- LENGTHS AND MARKS
 
@@ -320,7 +327,7 @@ formsHold (c ∷ cs) = agree (formed (c .bytes)) (c .formed) && formsHold cs
 
 -- an image of zeros with one other byte
 abbrev zerosBut : ℕ → ℕ → List ℕ
-zerosBut at b = overAt at (b ∷ []) (replicate 2313 0)
+zerosBut at b = overAt at (b ∷ []) (replicate 2697 0)
 
 abbrev forms : Bool → List ℕ → FormCase
 forms b l = record { bytes = l; formed = b }
@@ -329,27 +336,27 @@ unfoldable pub formTable : List FormCase
 formTable =
     -- lengths
     forms false []
-    ∷ forms false (replicate 2312 0)
-    ∷ forms true (replicate 2313 0)
-    ∷ forms false (replicate 2314 0)
+    ∷ forms false (replicate 2696 0)
+    ∷ forms true (replicate 2697 0)
+    ∷ forms false (replicate 2698 0)
     -- the mark of the first and the last program; of the first, the second and the last event
     ∷ forms true (zerosBut 9 1)
     ∷ forms false (zerosBut 9 2)
     ∷ forms true (zerosBut 51 1)
     ∷ forms false (zerosBut 51 2)
-    ∷ forms true (zerosBut 102 1)
-    ∷ forms false (zerosBut 102 2)
-    ∷ forms false (zerosBut 149 2)
-    ∷ forms true (zerosBut 2311 1)
-    ∷ forms false (zerosBut 2311 2)
+    ∷ forms true (zerosBut 110 1)
+    ∷ forms false (zerosBut 110 2)
+    ∷ forms false (zerosBut 165 2)
+    ∷ forms true (zerosBut 2695 1)
+    ∷ forms false (zerosBut 2695 2)
     -- #102: the choice of the first, the second and the last event: bits 0 to 2, and no other
-    ∷ forms true (zerosBut 103 7)
-    ∷ forms false (zerosBut 103 8)
-    ∷ forms false (zerosBut 103 16)
-    ∷ forms false (zerosBut 103 255)
-    ∷ forms false (zerosBut 150 8)
-    ∷ forms true (zerosBut 2312 7)
-    ∷ forms false (zerosBut 2312 8)
+    ∷ forms true (zerosBut 111 7)
+    ∷ forms false (zerosBut 111 8)
+    ∷ forms false (zerosBut 111 16)
+    ∷ forms false (zerosBut 111 255)
+    ∷ forms false (zerosBut 166 8)
+    ∷ forms true (zerosBut 2696 7)
+    ∷ forms false (zerosBut 2696 8)
     -- the bytes next to them are no marks
     ∷ forms true (zerosBut 8 2)
     ∷ forms true (zerosBut 10 2)
@@ -357,15 +364,15 @@ formTable =
     ∷ forms true (zerosBut 50 2)
     ∷ forms true (zerosBut 52 2)
     ∷ forms true (zerosBut 57 2)
-    ∷ forms true (zerosBut 101 2)
-    ∷ forms true (zerosBut 104 8)
-    ∷ forms true (zerosBut 2310 2)
+    ∷ forms true (zerosBut 109 2)
+    ∷ forms true (zerosBut 112 8)
+    ∷ forms true (zerosBut 2694 2)
     ∷ []
 
 -- an image keeps both: its length and marks, and the rules. The first has the wrong length, the others a count of 49 and a clock beyond the last reading.
 unfoldable pub refusedImages : Bool
 refusedImages =
-    not (imaged (replicate 2312 0))
+    not (imaged (replicate 2696 0))
     && not (imaged (zerosBut 8 49))
     && not (imaged (zerosBut 0 1))
 

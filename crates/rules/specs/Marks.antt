@@ -16,7 +16,7 @@ use Rattle.rules.specs.Bytes.{rowSize, bytes}
 use Rattle.rules.specs.Calls.{Call, addProgram, deliver, setClock, ask, Governor, byEvent, byProgram, byNone, Value, nothing, code, count, governor, Outcome, call, counted}
 
 abbrev pub buffer : List ℕ
-buffer = replicate 136 0
+buffer = replicate 200 0
 
 -- -k on 16 bits
 abbrev pub minus : ℕ → ℕ

@@ -29,12 +29,18 @@ unfoldable pub decimal : ℕ → ℕ → List ℕ
 decimal zero x = []
 decimal (suc n) x = cond (ltb x 10) ((48 + x) ∷ []) (decimal n (x / 10) ++ ((48 + x % 10) ∷ []))
 
--- how many digits a printed number has at the most: all are below 2 ^ 64
+-- how many digits a printed number has at the most: all but ids are below 2 ^ 64; document 02, #104: an id is below 2 ^ 128
 abbrev pub mostDigits : ℕ
 mostDigits = 20
 
+abbrev pub mostIdDigits : ℕ
+mostIdDigits = 39
+
 abbrev pub digits : ℕ → List ℕ
 digits x = decimal mostDigits x
+
+abbrev pub idDigits : ℕ → List ℕ
+idDigits i = decimal mostIdDigits i
 
 abbrev pub space : List ℕ
 space = 32 ∷ []
@@ -48,7 +54,7 @@ refusedText n = ascii "refused " ++ (digits n ++ lineFeed)
 
 -- three numbers: a clock or a time, an id, a code
 abbrev pub threeText : ℕ → ℕ → ℕ → List ℕ
-threeText t i k = digits t ++ (space ++ (digits i ++ (space ++ (digits k ++ lineFeed))))
+threeText t i k = digits t ++ (space ++ (idDigits i ++ (space ++ (digits k ++ lineFeed))))
 
 -- a call that names an id and gives a code; nothing for code 0
 abbrev pub codeText : ℕ → ℕ → Value → List ℕ
@@ -68,7 +74,7 @@ rowsText (suc n) at b = rowText at b ++ rowsText n (at + rowSize) b
 
 -- a question: control event id, control default program, or control none
 abbrev pub governorText : ℕ → Governor → List ℕ
-governorText c (byEvent i) = digits c ++ (ascii " event " ++ (digits i ++ lineFeed))
+governorText c (byEvent i) = digits c ++ (ascii " event " ++ (idDigits i ++ lineFeed))
 governorText c (byProgram p) = digits c ++ (ascii " default " ++ (digits p ++ lineFeed))
 governorText c byNone = digits c ++ (ascii " none" ++ lineFeed)
 

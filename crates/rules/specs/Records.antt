@@ -1,5 +1,5 @@
 -- Records: limits, ids, primacies, masks, and the schedule as lists. A comment names the section of document 01 and the term that it renders.
-use Prim.Native.Nat.{ℕ, _-_, _*_, _/_, _%_, _^_}
+use Prim.Native.Nat.{ℕ, _+_, _-_, _*_, _/_, _%_, _^_, _<_}
 use mathlib.Core.Bool.{Bool, true, false, cond, not, _&&_, _||_}
 use mathlib.Core.List.{List, [], _++_}
 use lib.Bits.{bitAnd, bitOr, bitXor}
@@ -40,19 +40,33 @@ lastControl = mostControls - 1
 abbrev pub mostRows : ℕ
 mostRows = 2 * mostEvents
 
--- Records, id: how many bytes it has, and the number that every id is below
+-- Document 02, #104, the mRID: how many bytes half of it has and how many the whole, and the numbers that every half and every id is below
+abbrev pub halfSize : ℕ
+halfSize = 8
+
 abbrev pub idSize : ℕ
-idSize = 8
+idSize = 2 * halfSize
+
+abbrev pub halfLimit : ℕ
+halfLimit = 256 ^ halfSize
 
 abbrev pub idLimit : ℕ
 idLimit = 256 ^ idSize
 
--- Records, id: the handle as one number, and the handle that a number is
+-- Document 02, #104, one unsigned number of 128 bits, of its upper and its lower half
+abbrev pub halves : (high low : ℕ) → ℕ
+halves high low = high * halfLimit + low
+
+-- the mRID as one number, and the mRID that a number is
 unfoldable pub idNumber : Id → ℕ
-idNumber i = i .value
+idNumber i = halves (i .high) (i .low)
 
 unfoldable pub idFrom : ℕ → Id
-idFrom n = record { value = n }
+idFrom n = record { high = n / halfLimit; low = n % halfLimit }
+
+-- each half fits its width, as those of every id by value do
+abbrev pub IdFits : Id → Type 0
+IdFits i = (i .high < halfLimit) × (i .low < halfLimit)
 
 abbrev pub idOf : Event → ℕ
 idOf e = idNumber (e .id)

@@ -27,21 +27,28 @@ two = drawnBack 2 0 3 200 15 5
 abbrev pub three : Event
 three = drawnBack 1 0 1 100 40 5
 
+-- document 02, #104: an id that agrees with that of `one` in its lower half, and one that agrees with it in its upper half and with that of `two` in its lower half
+abbrev pub fourth : ℕ
+fourth = 0x00000000000000010000000000000001
+
+abbrev pub fifth : ℕ
+fifth = 0x00000000000000010000000000000002
+
 -- 16 to 30 on controls 1 and 2: it begins under `two`, and holds what is left; out for 18 alone
 abbrev pub four : Event
-four = drawnBack 4 0 6 150 16 14
+four = drawnBack fourth 0 6 150 16 14
 
 -- 12 to 22 on control 1, of the lesser program, created last: it holds until `two` begins
 abbrev pub five : Event
-five = drawnBack 5 1 2 300 12 10
+five = drawnBack fifth 1 2 300 12 10
 
 abbrev room : List ℕ
-room = replicate 136 7
+room = replicate 200 7
 
 unfoldable pub plainly : List Call
 plainly =
     addProgram 0 1 1 ∷ addProgram 1 2 0 ∷ deliver one ∷ deliver two ∷ deliver four ∷ deliver five ∷ setClock 12 room ∷ cancel 1
-    ∷ setClock 11 room ∷ setClock 17 room ∷ optOut 2 ∷ optOut 4 ∷ setClock 18 room ∷ optIn 4 ∷ setClock 33 room ∷ deliver three
+    ∷ setClock 11 room ∷ setClock 17 room ∷ optOut 2 ∷ optOut fourth ∷ setClock 18 room ∷ optIn fourth ∷ setClock 33 room ∷ deliver three
     ∷ setClock 39 room ∷ optOut 1 ∷ setClock 42 room ∷ []
 
 -- programs and events in another order, each event at the last clock that is in time; an id that is not held; repeats of a program, of events, of a
@@ -50,7 +57,7 @@ unfoldable pub otherwise : List Call
 otherwise =
     cancel 9 ∷ addProgram 1 2 0 ∷ setClock 5 [] ∷ addProgram 0 1 1 ∷ setClock 9 room ∷ ask 0 ∷ deliver one ∷ addProgram 0 1 1 ∷ setClock 11 []
     ∷ setClock 11 room ∷ deliver five ∷ deliver one ∷ setClock 12 room ∷ cancel 1 ∷ setClock 14 room ∷ cancel 1 ∷ deliver two ∷ setClock 15 room
-    ∷ deliver four ∷ deliver one ∷ optOut 9 ∷ optIn 4 ∷ setClock 17 room ∷ optOut 4 ∷ optOut 2 ∷ optOut 2 ∷ setClock 18 room ∷ optIn 4 ∷ optOut 2
+    ∷ deliver four ∷ deliver one ∷ optOut 9 ∷ optIn fourth ∷ setClock 17 room ∷ optOut fourth ∷ optOut 2 ∷ optOut 2 ∷ setClock 18 room ∷ optIn fourth ∷ optOut 2
     ∷ setClock 39 room ∷ deliver three ∷ optOut 1 ∷ list [] ∷ setClock 42 room ∷ []
 
 abbrev row : ℕ → ℕ → ℕ → Row
@@ -149,7 +156,7 @@ pub record Sample : Type 0 where
   -- they differ
   pub lengths : (length plainly ≡ 19) × (length otherwise ≡ 34)
   -- and these are the joined rows of both
-  pub rows : joinedRows plainly ≡ bytes (row 10 1 2 ∷ row 12 5 2 ∷ row 15 5 7 ∷ row 15 2 2 ∷ row 16 4 2 ∷ row 20 2 8 ∷ row 30 4 9 ∷ row 40 1 2 ∷ [])
+  pub rows : joinedRows plainly ≡ bytes (row 10 1 2 ∷ row 12 fifth 2 ∷ row 15 fifth 7 ∷ row 15 2 2 ∷ row 16 fourth 2 ∷ row 20 2 8 ∷ row 30 fourth 9 ∷ row 40 1 2 ∷ [])
   pub results : SameResults plainly otherwise
   -- each part of the premise is needed: receipt before the drawn start, cancellations and their clocks, choices and theirs, events with every field, programs,
   -- the last reading

@@ -221,11 +221,11 @@ historyTable =
     ∷ deliver (event 2 0 1 21 10) ∷ cancel 2 ∷ setClock 8 [] ∷ cancel 2 ∷ setClock 3 [] ∷ ask 0 ∷ list [] ∷ []
     ) (program ∷ []) (at 7 left ∷ ended 0 7 right ∷ []) 8
     -- an id used again: the cancellation is of the event held then, and not of the one before
-    ∷ brings (addProgram 0 1 5 ∷ deliver early ∷ setClock 5 (replicate 34 0) ∷ deliver again ∷ cancel 1 ∷ []) (program ∷ []) (at 0 early ∷ ended 5 5 again ∷ []) 5
+    ∷ brings (addProgram 0 1 5 ∷ deliver early ∷ setClock 5 (replicate 50 0) ∷ deliver again ∷ cancel 1 ∷ []) (program ∷ []) (at 0 early ∷ ended 5 5 again ∷ []) 5
     ∷ brings (addProgram 0 1 5 ∷ deliver early ∷ cancel 1 ∷ setClock 5 [] ∷ deliver again ∷ []) (program ∷ []) (ended 0 0 early ∷ at 5 again ∷ []) 5
     -- #102: choices with their clocks, the last one first; what is refused and what repeats the present choice is none; those of an event are not those of its id
     ∷ brings (
-    addProgram 0 1 5 ∷ optOut 1 ∷ deliver early ∷ optIn 1 ∷ optOut 1 ∷ optOut 1 ∷ setClock 2 (replicate 17 0) ∷ optOut 1 ∷ optIn 1 ∷ setClock 5 (replicate 17 0)
+    addProgram 0 1 5 ∷ optOut 1 ∷ deliver early ∷ optIn 1 ∷ optOut 1 ∷ optOut 1 ∷ setClock 2 (replicate 25 0) ∷ optOut 1 ∷ optIn 1 ∷ setClock 5 (replicate 25 0)
     ∷ optIn 1 ∷ deliver again ∷ optIn 1 ∷ optOut 1 ∷ deliver right ∷ optOut 3 ∷ []
     ) (program ∷ []) (chosen (back 2 ∷ out 0 ∷ []) early ∷ record { event = again; receipt = 5; cancelled = none; choices = out 5 ∷ [] } ∷ at 5 right ∷ []) 5
     ∷ []

@@ -1,37 +1,46 @@
-// An id: made from its number, compared. Its bytes are in crates/octets, its digits in crates/text.
+// An id: made from its halves, taken apart, compared. Its bytes are in crates/octets, its digits in crates/text.
 ghost use mathlib.Core.Path.{_≡_};
 ghost use lib.Dec.{eqb, ltb};
-ghost use Rattle.rules.specs.Records.{idNumber, idFrom};
+ghost use Prim.Native.Nat.{_/_, _%_};
+ghost use Rattle.rules.specs.Records.{halfLimit, halves, idNumber, idFrom};
 use crate::Id;
 
 impl Id {
-    // Records. Bytes of an id.
-    pub const SIZE: usize = 8;
+    // Document 02, #104. Bytes of half an id, and of an id.
+    pub const HALF: usize = 8;
 
-    // The id that a number is.
-    pub fn of(value: u64) -> Id
-        ensures { λ r. ⌜ r ≡ idFrom value ⌝ }
+    pub const SIZE: usize = 2 * Id::HALF;
+
+    // The id of two halves.
+    pub fn of(high: u64, low: u64) -> Id
+        ensures { λ r. ⌜ r ≡ idFrom (halves high low) ⌝ }
     {
-        Id { value }
+        Id { high, low }
     }
 
-    // The number that an id is.
-    pub fn number(self) -> u64
-        ensures { λ r. ⌜ r ≡ idNumber self ⌝ }
+    // The halves of an id.
+    pub fn upper(self) -> u64
+        ensures { λ r. ⌜ r ≡ idNumber self / halfLimit ⌝ }
     {
-        self.value
+        self.high
+    }
+
+    pub fn lower(self) -> u64
+        ensures { λ r. ⌜ r ≡ idNumber self % halfLimit ⌝ }
+    {
+        self.low
     }
 
     pub fn equals(self, other: Id) -> bool
         ensures { λ r. ⌜ r ≡ eqb (idNumber self) (idNumber other) ⌝ }
     {
-        self.value == other.value
+        (self.low == other.low) & (self.high == other.high)
     }
 
     // Whether it comes before another in the order of ids.
     pub fn is_below(self, other: Id) -> bool
         ensures { λ r. ⌜ r ≡ ltb (idNumber self) (idNumber other) ⌝ }
     {
-        self.value < other.value
+        (self.high < other.high) | ((self.high == other.high) & (self.low < other.low))
     }
 }

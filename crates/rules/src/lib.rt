@@ -39,10 +39,11 @@ pub const MOST_ROWS: usize = 2 * Schedule::EVENTS;
 
 pub const ROWS_SIZE: usize = MOST_ROWS * ROW_SIZE;
 
-// Records. An id: the host's handle of an event. Definitions read it as one number (`idNumber`). Code outside this crate can't look inside: ids.rt has what
-// can be done with one, crates/octets its bytes, crates/text its digits.
+// Document 02, #104. An id: the mRID of an event, 128 bits in two halves. Definitions read it as one number (`idNumber`). Code outside this crate can't look
+// inside: ids.rt has what can be done with one, crates/octets its bytes, crates/text its digits.
 pub struct Id {
-    value: u64,
+    high: u64,
+    low: u64,
 }
 
 // Records. A program in its place, which is its number.
@@ -160,7 +161,7 @@ impl Event {
         ensures { λ r. ⌜ r ≡ noEvent ⌝ }
     {
         Event {
-            id: Id::of(0),
+            id: Id::of(0, 0),
             program: 0,
             controls: 0,
             created: 0,

@@ -124,7 +124,7 @@ fn has_sound_entries(s: Schedule) -> bool
     let mut ok = true;
     let mut used: u32 = 0;
     let mut more = false;
-    let mut next = Id::of(0);
+    let mut next = Id::of(0, 0);
     let mut i = s.count;
     while 0 < i {
         i -= 1;

@@ -16,9 +16,9 @@ use Rattle.rules.proofs.Answer.{the-type as answers}
 use Rattle.rules.specs.Records.{idSize}
 use Rattle.rules.specs.Bytes.{read, rowSize}
 use Rattle.rules.specs.Calls.{valueOf}
-use Rattle.rules.specs.Printed.{decimal, digits, threeText, codeText, rowsText, askText, rowText}
+use Rattle.rules.specs.Printed.{decimal, mostDigits, digits, mostIdDigits, idDigits, threeText, codeText, rowsText, askText, rowText}
 use Rattle.rules.proofs.Over.{over-then, over-none}
-use Rattle.text.specs.Texts.{Stands, numberDigits, idDigits, mostRow, ifRoom}
+use Rattle.text.specs.Texts.{Stands, mostRow, ifRoom}
 
 module _ {l : List ℕ} {at : ℕ} where
   pub put-none : Stands l at [] l at
@@ -65,8 +65,11 @@ decimal-length (suc n) x = go (ltb x 10) (decimal-length n (x / 10))
 pub decimal-within : (n x : ℕ) {l m : List ℕ} {at r : ℕ} → Stands l at (decimal n x) m r → r ≤ at + n
 decimal-within n x p = omega (arith, p .end, decimal-length n x)
 
-pub number-within : (x : ℕ) (w : List ℕ) {l m : List ℕ} {at r : ℕ} → Stands l at (digits x ++ w) m r → r ≤ at + (numberDigits + length w)
-number-within x w p = omega (arith, p .end, length-append (digits x) w, decimal-length numberDigits x)
+pub number-within : (x : ℕ) (w : List ℕ) {l m : List ℕ} {at r : ℕ} → Stands l at (digits x ++ w) m r → r ≤ at + (mostDigits + length w)
+number-within x w p = omega (arith, p .end, length-append (digits x) w, decimal-length mostDigits x)
+
+pub id-within : (i : ℕ) (w : List ℕ) {l m : List ℕ} {at r : ℕ} → Stands l at (idDigits i ++ w) m r → r ≤ at + (mostIdDigits + length w)
+id-within i w p = omega (arith, p .end, length-append (idDigits i) w, decimal-length mostIdDigits i)
 
 -- Answers that give no text.
 
@@ -93,7 +96,7 @@ unfolding read
 read-one at l = let z : at + 0 ≡ at = omega arith in rw z (omega arith)
 
 pub three-length : (t i k : ℕ) → length (threeText t i k) ≤ mostRow
-three-length t i k = simp length-append (omega (arith, decimal-length numberDigits t, decimal-length idDigits i, decimal-length numberDigits k))
+three-length t i k = simp length-append (omega (arith, decimal-length mostDigits t, decimal-length mostIdDigits i, decimal-length mostDigits k))
 
 module _ (b : List ℕ) where
   pub rows-length : (n at : ℕ) → length (rowsText n at b) ≤ mostRow * n

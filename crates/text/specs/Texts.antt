@@ -6,8 +6,10 @@ use mathlib.Core.List.{List, [], _∷_, _++_}
 use lib.Dec.{leb}
 use lib.ListN.{length}
 use Rattle.rules.specs.Lists.{overAt}
-use Rattle.rules.specs.Records.{mostRows}
+use Rattle.rules.specs.Records.{mostRows, halves}
 use Rattle.rules.specs.Bytes.{rowSize, rowsSize}
+use Rattle.rules.specs.Printed.{mostDigits, mostIdDigits}
+use Rattle.text.specs.declared.writing.Divided.{Divided}
 
 -- a text stands in a buffer from `at` on, and `behind` is the place behind it
 pub record Stands (old : List ℕ) (at : ℕ) (text new : List ℕ) (behind : ℕ) : Type 0 where
@@ -19,19 +21,12 @@ unfoldable pub padded : ℕ → ℕ → List ℕ
 padded zero x = []
 padded (suc n) x = padded n (x / 10) ++ ((48 + x % 10) ∷ [])
 
--- a number below 2 ^ 64 has no more decimal digits, and an id no more than these
-abbrev pub numberDigits : ℕ
-numberDigits = 20
-
-abbrev pub idDigits : ℕ
-idDigits = 20
-
 -- a number, and an id, with the byte behind it
 abbrev pub mostNumber : ℕ
-mostNumber = numberDigits + 1
+mostNumber = mostDigits + 1
 
 abbrev pub mostId : ℕ
-mostId = idDigits + 1
+mostId = mostIdDigits + 1
 
 -- no refusal, no answer to a question and no row has a longer text: a refusal begins with a word of 8 bytes, and an answer has a control and then at most 8 bytes more before
 -- its number or id
@@ -52,6 +47,12 @@ mostText = mostRows * mostRow
 pub record DigitsFit (n x at : ℕ) (out : List ℕ) : Type 0 where
   pub below : x < 10 ^ n
   pub room : at + n ≤ length out
+
+-- a number of two halves divided by 10 ^ 8: the halves of the front, of which the upper is the number's upper half divided, and the last eight digits
+pub record Divides (high low : ℕ) (r : Divided) : Type 0 where
+  pub front : halves (r .high) (r .low) ≡ halves high low / 10 ^ 8
+  pub rest : r .rest ≡ halves high low % 10 ^ 8
+  pub upper : r .high ≡ high / 10 ^ 8
 
 -- so many rows stand in a buffer from a place on, and there is room for their text
 pub record RowsFit (from count : ℕ) (rows : List ℕ) (at : ℕ) (out : List ℕ) : Type 0 where

@@ -20,7 +20,7 @@ use rules::Frame;
 // The most decimal digits of a number, and of an id.
 const DIGITS: usize = 20;
 
-const ID_DIGITS: usize = 20;
+const ID_DIGITS: usize = 39;
 
 // The longest text of a refusal, with its word, and of a row: a time, an id and a code, each with the byte behind it.
 const REFUSED: usize = 8 + DIGITS + 1;

@@ -5,11 +5,12 @@ ghost use mathlib.Core.List.{[], _∷_, _++_};
 ghost use Prim.Native.Nat.{_+_, _≤_};
 ghost use lib.Dec.{eqb};
 ghost use lib.ListN.{length};
-ghost use Rattle.rules.specs.Records.{idNumber};
+ghost use Rattle.rules.specs.Records.{idNumber, halves};
 ghost use Rattle.rules.specs.Calls.{Outcome, numberOf, valueOf, counted};
-ghost use Rattle.rules.specs.Printed.{decimal, digits, space, refusedText, threeText, codeText, rowText, rowsText, askText, frameText};
-ghost use Rattle.text.specs.Texts.{Stands, padded, DigitsFit, RowsFit, LineFits};
-ghost use Rattle.text.specs.Texts.{numberDigits, mostNumber, mostId, mostRefused, mostAsk, mostRow};
+ghost use Rattle.rules.specs.Printed.{decimal, mostDigits, digits, mostIdDigits, idDigits, space};
+ghost use Rattle.rules.specs.Printed.{refusedText, threeText, codeText, rowText, rowsText, askText, frameText};
+ghost use Rattle.text.specs.Texts.{Stands, padded, DigitsFit, Divides, RowsFit, LineFits};
+ghost use Rattle.text.specs.Texts.{mostNumber, mostId, mostRefused, mostAsk, mostRow};
 use rules::Answer;
 use rules::Frame;
 use rules::Id;
@@ -90,7 +91,7 @@ fn below_eight(out: &mut [u8], at: usize, x: u32) -> usize
 
 // A number in decimal digits, no zero in front.
 fn decimal(out: &mut [u8], at: usize, x: u64) -> usize
-    requires { ⌜ at + numberDigits ≤ length (now out) ⌝ }
+    requires { ⌜ at + mostDigits ≤ length (now out) ⌝ }
     ensures { λ r. ⌜ Stands (now (out .entry)) at (digits x) (now (out .exit)) r ⌝ }
 {
     if x < 100000000 {
@@ -122,12 +123,53 @@ fn number(out: &mut [u8], at: usize, x: u64, behind: u8) -> usize
     end + 1
 }
 
+// A number of two halves in two parts: the front, in two halves too, and the last eight digits.
+struct Divided {
+    high: u64,
+    low: u64,
+    rest: u32,
+}
+
+// Divides a number of two halves by 100000000 as on paper: what is left of one place goes before the next, and a place has 32 bits.
+fn divide(high: u64, low: u64) -> Divided
+    ensures { λ r. ⌜ Divides high low r ⌝ }
+{
+    let upper = high % 100000000 * 0x1_0000_0000 + low / 0x1_0000_0000;
+    let lower = upper % 100000000 * 0x1_0000_0000 + low % 0x1_0000_0000;
+    Divided {
+        high: high / 100000000,
+        low: upper / 100000000 * 0x1_0000_0000 + lower / 100000000,
+        rest: (lower % 100000000) as u32,
+    }
+}
+
+// A number of two halves, no zero in front: its front, for which it calls itself, four times at the most, and its last eight digits. `decimal` is left to
+// `number`, into which it is compiled as long as nothing else calls it.
+fn wide(out: &mut [u8], at: usize, high: u64, low: u64) -> usize
+    requires { ⌜ at + mostIdDigits ≤ length (now out) ⌝ }
+    ensures { λ r. ⌜ Stands (now (out .entry)) at (idDigits (halves high low)) (now (out .exit)) r ⌝ }
+{
+    if (high == 0) & (low < 100000000) {
+        return below_eight(out, at, low as u32);
+    }
+    let d = divide(high, low);
+    let behind = wide(out, at, d.high, d.low);
+    put_eight(out, behind, d.rest)
+}
+
 // An id and the byte behind it.
 fn id_text(out: &mut [u8], at: usize, id: Id, behind: u8) -> usize
     requires { ⌜ at + mostId ≤ length (now out) ⌝ }
-    ensures { λ r. ⌜ Stands (now (out .entry)) at (digits (idNumber id) ++ (behind ∷ [])) (now (out .exit)) r ⌝ }
+    ensures { λ r. ⌜ Stands (now (out .entry)) at (idDigits (idNumber id) ++ (behind ∷ [])) (now (out .exit)) r ⌝ }
 {
-    number(out, at, id.number(), behind)
+    let high = id.upper();
+    let low = id.lower();
+    if high == 0 {
+        return number(out, at, low, behind);
+    }
+    let end = wide(out, at, high, low);
+    out[end] = behind;
+    end + 1
 }
 
 // A word, byte by byte.

@@ -8,6 +8,7 @@ use fuzz::{Move, Moves, Room};
 use oracle::beside::{compare, make_fresh, Broken, Lent, Oracle, Outcome, Seen};
 use oracle::calls::ROW_BYTES;
 use oracle::event::LAST_CLOCK;
+use oracle::frame::ID_BYTES;
 use oracle::image::{IMAGE_BYTES, RECORD_BYTES};
 use oracle::proved::Call;
 use oracle::random::Dice;
@@ -100,7 +101,7 @@ impl Host {
                     |fast: &mut Fast| fast.set_clock(reading, usize::MAX).map_or(0, <[Row]>::len);
                 Call::Clock(reading, room.bytes(ROW_BYTES * self.count(rows)))
             }
-            Frame::Ask(control) => Call::Ask(control, room.bytes(8)),
+            Frame::Ask(control) => Call::Ask(control, room.bytes(ID_BYTES)),
         }
     }
 
@@ -165,7 +166,7 @@ impl Host {
     fn finish(&mut self) -> Outcome {
         self.make(Move::List(Room::AMPLE))?;
         for control in [0, 1, 2, 31] {
-            self.call(&Call::Ask(control, 8))?;
+            self.call(&Call::Ask(control, ID_BYTES))?;
         }
         self.make(Move::Frame(Frame::Clock(LAST_CLOCK), Room::AMPLE))
     }

@@ -8,7 +8,7 @@ use std::io::BufReader;
 
 use fuzz::features::saw_text;
 use fuzz::{Move, Moves};
-use oracle::frame::encode;
+use oracle::frame::{encode, LONGEST_LINE};
 use oracle::program::{same, serve};
 use oracle::{Calls, Fast, Scheduler};
 
@@ -47,7 +47,7 @@ fn text_of(moves: Moves) -> Vec<u8> {
             Move::List(_) | Move::Fresh => text.push(b'\n'),
             Move::Edit(edit) => edit.make(&mut text[line_at..]),
             Move::Raw(bytes) => text.extend_from_slice(bytes),
-            Move::Length(size) => text.truncate(line_at + size % 70),
+            Move::Length(size) => text.truncate(line_at + size % (LONGEST_LINE + 2)),
         }
         line_at = line_at.min(text.len());
     }

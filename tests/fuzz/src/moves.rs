@@ -3,7 +3,8 @@
 //! form of each call takes its numbers whole.
 
 use oracle::event::LAST_CLOCK;
-use oracle::frame::{read_event, EVENT_FIELDS};
+use oracle::frame::{read_event, EVENT_FIELDS, ID_BYTES};
+use oracle::ids::joined;
 use oracle::image::{ENTRY_BYTES, IMAGE_BYTES, RECORD_BYTES};
 use oracle::{Choice, Event, Frame, Program};
 
@@ -69,7 +70,7 @@ impl Edit {
 /// To the number that ends here, most significant byte first.
 fn add(bytes: &mut [u8], value: u8) {
     let mut carry = value;
-    for byte in bytes.iter_mut().rev().take(8) {
+    for byte in bytes.iter_mut().rev().take(ID_BYTES) {
         let (sum, over) = byte.overflowing_add(carry);
         *byte = sum;
         carry = over.into();
@@ -78,7 +79,7 @@ fn add(bytes: &mut [u8], value: u8) {
 
 fn subtract(bytes: &mut [u8], value: u8) {
     let mut borrow = value;
-    for byte in bytes.iter_mut().rev().take(8) {
+    for byte in bytes.iter_mut().rev().take(ID_BYTES) {
         let (difference, under) = byte.overflowing_sub(borrow);
         *byte = difference;
         borrow = under.into();
@@ -200,15 +201,21 @@ impl<'a> Moves<'a> {
         Some(Move::Frame(choice_of(choice, id_of(id)), Room::AMPLE))
     }
 
-    /// A reading or an id of 8 bytes.
+    /// A reading of 8 bytes or an id of 16.
     fn whole_number(&mut self) -> Option<Move<'a>> {
         let [kind, room] = self.take()?;
-        let number = u64::from_be_bytes(self.take()?);
         Some(match kind & 3 {
-            0 => self.clock(number, Room(room)),
-            1 => Move::Frame(Frame::Cancel(number), Room::AMPLE),
-            other => Move::Frame(choice_of(other, number), Room::AMPLE),
+            0 => {
+                let reading = u64::from_be_bytes(self.take()?);
+                self.clock(reading, Room(room))
+            }
+            1 => Move::Frame(Frame::Cancel(self.whole_id()?), Room::AMPLE),
+            other => Move::Frame(choice_of(other, self.whole_id()?), Room::AMPLE),
         })
+    }
+
+    fn whole_id(&mut self) -> Option<u128> {
+        self.take().map(u128::from_be_bytes)
     }
 
     /// Otherwise a full schedule would need a long input.
@@ -268,18 +275,24 @@ impl<'a> Iterator for Moves<'a> {
     }
 }
 
-fn choice_of(byte: u8, id: u64) -> Frame {
+fn choice_of(byte: u8, id: u128) -> Frame {
     match byte & 1 {
         0 => Frame::Choice(id, Choice::Out),
         _ => Frame::Choice(id, Choice::In),
     }
 }
 
-fn id_of(byte: u8) -> u64 {
+/// Small ids, and ids that share a half with one of these or with each other, with the top bit and
+/// without. A larger byte gives a larger id.
+fn id_of(byte: u8) -> u128 {
+    let low = u64::from(byte & 31);
     match byte {
-        255 => u64::MAX,
-        254 => u64::MAX - 1,
-        small => small.into(),
+        254 | 255 => u128::MAX - u128::from(255 - byte),
+        0..128 => byte.into(),
+        128..160 => joined(1, low),
+        160..192 => joined(2 + low, 1),
+        192..224 => joined(1 << 63, low),
+        224..254 => joined(u64::MAX, low),
     }
 }
 

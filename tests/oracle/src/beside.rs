@@ -1,6 +1,7 @@
 //! A call made on both sides, by an oracle and through C, and all that a host can see of it
 //! compared: the number returned, the image and the lent bytes, with guards around both.
 
+use crate::frame::ID_BYTES;
 use crate::image::{IMAGE_BYTES, RECORD_BYTES};
 use crate::proved::{self, Call};
 use crate::random::Dice;
@@ -48,11 +49,11 @@ impl Calls for Broken {
         Err(2)
     }
 
-    fn cancel(&mut self, _: u64) -> Result<u8, u8> {
+    fn cancel(&mut self, _: u128) -> Result<u8, u8> {
         Err(2)
     }
 
-    fn choose(&mut self, _: u64, _: Choice) -> Result<u8, u8> {
+    fn choose(&mut self, _: u128, _: Choice) -> Result<u8, u8> {
         Err(2)
     }
 
@@ -82,7 +83,7 @@ fn answer(oracle: &mut impl Calls, call: &Call, lent: &mut [u8]) -> Result<i32, 
             Ok(rows.len() as i32)
         }
         Call::Ask(control, room) => match oracle.ask(control)? {
-            Answer::Event(_) if room < 8 => Err(13),
+            Answer::Event(_) if room < ID_BYTES => Err(13),
             Answer::Event(id) => {
                 write_front(lent, [id.to_be_bytes()]);
                 Ok(1)

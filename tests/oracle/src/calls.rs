@@ -5,7 +5,7 @@ use crate::event::{Event, Program};
 use crate::frame::{decode, Frame};
 use crate::image::Record;
 
-pub const ROW_BYTES: usize = 17;
+pub const ROW_BYTES: usize = 25;
 
 /// Enough for the rows of any clock call: an event gives two rows at most.
 pub const AMPLE: usize = 2 * crate::event::MOST_EVENTS * ROW_BYTES;
@@ -13,7 +13,7 @@ pub const AMPLE: usize = 2 * crate::event::MOST_EVENTS * ROW_BYTES;
 #[derive(Clone, Copy, PartialEq, Eq, Debug)]
 pub struct Row {
     pub time: u64,
-    pub id: u64,
+    pub id: u128,
     pub code: u8,
 }
 
@@ -21,13 +21,13 @@ impl Row {
     pub fn bytes(&self) -> [u8; ROW_BYTES] {
         let mut bytes = [0; ROW_BYTES];
         bytes[..8].copy_from_slice(&self.time.to_be_bytes());
-        bytes[8..16].copy_from_slice(&self.id.to_be_bytes());
-        bytes[16] = self.code;
+        bytes[8..24].copy_from_slice(&self.id.to_be_bytes());
+        bytes[24] = self.code;
         bytes
     }
 
     /// Of one moment the rows of ends come first, then 7, then 2.
-    pub fn place(&self) -> (u64, u8, u64) {
+    pub fn place(&self) -> (u64, u8, u128) {
         let class = match self.code {
             code if is_end(code) => 0,
             7 => 1,
@@ -44,7 +44,7 @@ pub fn is_end(code: u8) -> bool {
 
 #[derive(Clone, Copy, PartialEq, Eq, Debug)]
 pub enum Answer {
-    Event(u64),
+    Event(u128),
     Default(u8),
     None,
 }
@@ -59,10 +59,10 @@ pub trait Calls {
     fn deliver(&mut self, event: &Event) -> Result<u8, u8>;
 
     /// Gives code 6, or 0 if the event was cancelled before.
-    fn cancel(&mut self, id: u64) -> Result<u8, u8>;
+    fn cancel(&mut self, id: u128) -> Result<u8, u8>;
 
     /// Opts out of the event or in. Gives the code of the choice, or 0 if it is the present one.
-    fn choose(&mut self, id: u64, choice: Choice) -> Result<u8, u8>;
+    fn choose(&mut self, id: u128, choice: Choice) -> Result<u8, u8>;
 
     /// `room` is the length of the caller's buffer in bytes.
     fn set_clock(&mut self, reading: u64, room: usize) -> Result<&[Row], u8>;
@@ -120,8 +120,8 @@ struct Printed {
 }
 
 impl Printed {
-    /// Room for two numbers of 20 digits, a third of 3 and the signs between.
-    const LONGEST: usize = 48;
+    /// Room for a time of 20 digits, an id of 39, a code of 3 and the signs between.
+    const LONGEST: usize = 65;
 
     fn new() -> Self {
         let mut printed = Printed {
@@ -138,12 +138,14 @@ impl Printed {
         self.bytes[self.first..end].copy_from_slice(text);
     }
 
-    /// Two digits at a time, as dividing is what costs.
     fn number_before(&mut self, mut number: u64) {
+        while number >= EIGHT_DIGITS {
+            self.eight_before(number % EIGHT_DIGITS);
+            number /= EIGHT_DIGITS;
+        }
         while number >= 100 {
-            let pair = (number % 100) as usize;
+            self.before(&DIGIT_PAIRS[number as usize % 100]);
             number /= 100;
-            self.before(&DIGIT_PAIRS[pair]);
         }
         let pair = DIGIT_PAIRS[number as usize];
         if number >= 10 {
@@ -153,10 +155,33 @@ impl Printed {
         }
     }
 
+    /// Few divisions of 128 bits, as these cost most.
+    fn id_before(&mut self, mut id: u128) {
+        const SIXTEEN_DIGITS: u128 = 10u128.pow(16);
+        while id > u64::MAX.into() {
+            let rest = id / SIXTEEN_DIGITS;
+            let part = (id - rest * SIXTEEN_DIGITS) as u64;
+            self.eight_before(part % EIGHT_DIGITS);
+            self.eight_before(part / EIGHT_DIGITS);
+            id = rest;
+        }
+        self.number_before(id as u64);
+    }
+
+    /// Eight digits, zeros in front included. No division waits for all those before it.
+    fn eight_before(&mut self, number: u64) {
+        let (left, right) = (number as u32 / 10_000, number as u32 % 10_000);
+        for pair in [right % 100, right / 100, left % 100, left / 100] {
+            self.before(&DIGIT_PAIRS[pair as usize]);
+        }
+    }
+
     fn put(&self, out: &mut Vec<u8>) {
         out.extend_from_slice(&self.bytes[self.first..]);
     }
 }
+
+const EIGHT_DIGITS: u64 = 100_000_000;
 
 const DIGIT_PAIRS: [[u8; 2]; 100] = digit_pairs();
 
@@ -177,14 +202,14 @@ fn print_refusal(number: u8, out: &mut Vec<u8>) {
     printed.put(out);
 }
 
-fn print_code(clock: u64, id: u64, code: u8, out: &mut Vec<u8>) {
+fn print_code(clock: u64, id: u128, code: u8, out: &mut Vec<u8>) {
     if code == 0 {
         return;
     }
     let mut printed = Printed::new();
     printed.number_before(code.into());
     printed.before(b" ");
-    printed.number_before(id);
+    printed.id_before(id);
     printed.before(b" ");
     printed.number_before(clock);
     printed.put(out);
@@ -200,7 +225,7 @@ fn print_answer(control: u8, answer: Answer, out: &mut Vec<u8>) {
     let mut printed = Printed::new();
     match answer {
         Answer::Event(id) => {
-            printed.number_before(id);
+            printed.id_before(id);
             printed.before(b" event ");
         }
         Answer::Default(number) => {

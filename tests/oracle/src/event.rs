@@ -17,7 +17,7 @@ pub type Programs = [Option<Program>; 8];
 
 #[derive(Clone, Copy, PartialEq, Eq, PartialOrd, Ord, Debug, Default)]
 pub struct Event {
-    pub id: u64,
+    pub id: u128,
     pub program: u8,
     pub controls: u32,
     pub creation: u32,
@@ -29,8 +29,9 @@ pub struct Event {
     pub duration_draw: i16,
 }
 
-/// Of two events the one with the smaller rank is the better.
-pub type Rank = u128;
+/// Of two events the one with the smaller rank is the better: primacy and creation packed into one
+/// number, then the id.
+pub type Rank = (u64, u128);
 
 impl Event {
     /// Cut off at 0, which only matters to events that check 7 refuses.
@@ -57,8 +58,8 @@ impl Event {
 
     /// Lower primacy first, then later creation, then larger id.
     pub fn rank(&self, primacy: u8) -> Rank {
-        let by_creation = u128::from(!self.creation) << 64;
-        u128::from(primacy) << 96 | by_creation | u128::from(!self.id)
+        let by_creation = u64::from(primacy) << 32 | u64::from(!self.creation);
+        (by_creation, !self.id)
     }
 
     /// Checks 3, 6 and 7, in this order.

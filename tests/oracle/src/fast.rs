@@ -37,7 +37,7 @@ pub struct Fast {
     /// The default of each control, kept since programs come seldom.
     defaults: [Answer; CONTROLS],
     /// The ids of what is held, ascending, with their places.
-    held: Vec<(u64, usize)>,
+    held: Vec<(u128, usize)>,
     places: [Place; MOST_EVENTS],
     masks: [u32; MOST_EVENTS],
     free: Places,
@@ -141,7 +141,7 @@ impl Fast {
     }
 
     /// Where the id is among what is held, or where it would go.
-    fn find(&self, id: u64) -> Result<usize, usize> {
+    fn find(&self, id: u128) -> Result<usize, usize> {
         self.held.binary_search_by_key(&id, |&(held, _)| held)
     }
 
@@ -366,7 +366,7 @@ impl Calls for Fast {
         Ok(1)
     }
 
-    fn cancel(&mut self, id: u64) -> Result<u8, u8> {
+    fn cancel(&mut self, id: u128) -> Result<u8, u8> {
         let order = self.find(id).map_err(|_| 11)?;
         let at = self.held[order].1;
         if self.places[at].cancelled {
@@ -377,7 +377,7 @@ impl Calls for Fast {
         Ok(6)
     }
 
-    fn choose(&mut self, id: u64, choice: Choice) -> Result<u8, u8> {
+    fn choose(&mut self, id: u128, choice: Choice) -> Result<u8, u8> {
         let order = self.find(id).map_err(|_| 11)?;
         let at = self.held[order].1;
         if self.choice(at) == choice {

@@ -6,14 +6,15 @@ use crate::event::{Event, Program};
 #[derive(Clone, Copy, PartialEq, Eq, Debug)]
 pub enum Frame {
     Event(Event),
-    Cancel(u64),
+    Cancel(u128),
     Clock(u64),
     Program(u8, Program),
     Ask(u8),
-    Choice(u64, Choice),
+    Choice(u128, Choice),
 }
 
-pub const EVENT_FIELDS: usize = 33;
+pub const ID_BYTES: usize = 16;
+pub const EVENT_FIELDS: usize = ID_BYTES + 25;
 
 /// The longest line that can be a frame, in characters.
 pub const LONGEST_LINE: usize = 2 * (1 + EVENT_FIELDS);
@@ -21,28 +22,33 @@ pub const LONGEST_LINE: usize = 2 * (1 + EVENT_FIELDS);
 /// `None` is refusal 1. The length picks the bytes to read, the kind then has to go with it.
 pub fn decode(line: &[u8]) -> Option<Frame> {
     match line.len() {
-        68 => decode_event(&unhex::<34>(line)?),
-        18 => decode_number(&unhex::<9>(line)?),
+        84 => decode_event(&unhex::<42>(line)?),
+        34 => decode_id(&unhex::<17>(line)?),
+        18 => decode_clock(&unhex::<9>(line)?),
         14 => decode_program(&unhex::<7>(line)?),
         4 => decode_question(&unhex::<2>(line)?),
         _ => None,
     }
 }
 
-fn decode_event(bytes: &[u8; 34]) -> Option<Frame> {
+fn decode_event(bytes: &[u8; 42]) -> Option<Frame> {
     let (&kind, fields) = bytes.split_first()?;
     (kind == 1).then(|| Frame::Event(read_event(fields)))
 }
 
-fn decode_number(bytes: &[u8; 9]) -> Option<Frame> {
-    let number = u64::from_be_bytes(part(bytes, 1));
+fn decode_id(bytes: &[u8; 17]) -> Option<Frame> {
+    let id = u128::from_be_bytes(part(bytes, 1));
     match bytes[0] {
-        2 => Some(Frame::Cancel(number)),
-        3 => Some(Frame::Clock(number)),
-        6 => Some(Frame::Choice(number, Choice::Out)),
-        7 => Some(Frame::Choice(number, Choice::In)),
+        2 => Some(Frame::Cancel(id)),
+        6 => Some(Frame::Choice(id, Choice::Out)),
+        7 => Some(Frame::Choice(id, Choice::In)),
         _ => None,
     }
+}
+
+fn decode_clock(bytes: &[u8; 9]) -> Option<Frame> {
+    let reading = u64::from_be_bytes(part(bytes, 1));
+    (bytes[0] == 3).then_some(Frame::Clock(reading))
 }
 
 fn decode_program(bytes: &[u8; 7]) -> Option<Frame> {
@@ -55,19 +61,19 @@ fn decode_question(&[kind, control]: &[u8; 2]) -> Option<Frame> {
     (kind == 5).then_some(Frame::Ask(control))
 }
 
-/// The 33 field bytes of an event, as a frame and an image have them.
+/// The 41 field bytes of an event, as a frame and an image have them.
 pub fn read_event(fields: &[u8]) -> Event {
     Event {
-        id: u64::from_be_bytes(part(fields, 0)),
-        program: fields[8],
-        controls: u32::from_be_bytes(part(fields, 9)),
-        creation: u32::from_be_bytes(part(fields, 13)),
-        start: u32::from_be_bytes(part(fields, 17)),
-        duration: u32::from_be_bytes(part(fields, 21)),
-        randomize_start: i16::from_be_bytes(part(fields, 25)),
-        randomize_duration: i16::from_be_bytes(part(fields, 27)),
-        start_draw: i16::from_be_bytes(part(fields, 29)),
-        duration_draw: i16::from_be_bytes(part(fields, 31)),
+        id: u128::from_be_bytes(part(fields, 0)),
+        program: fields[16],
+        controls: u32::from_be_bytes(part(fields, 17)),
+        creation: u32::from_be_bytes(part(fields, 21)),
+        start: u32::from_be_bytes(part(fields, 25)),
+        duration: u32::from_be_bytes(part(fields, 29)),
+        randomize_start: i16::from_be_bytes(part(fields, 33)),
+        randomize_duration: i16::from_be_bytes(part(fields, 35)),
+        start_draw: i16::from_be_bytes(part(fields, 37)),
+        duration_draw: i16::from_be_bytes(part(fields, 39)),
     }
 }
 
@@ -98,22 +104,25 @@ pub fn encode(frame: &Frame) -> Vec<u8> {
             bytes.push(1);
             write_event(&event, &mut bytes);
         }
-        Frame::Cancel(id) => write_number(2, id, &mut bytes),
-        Frame::Clock(reading) => write_number(3, reading, &mut bytes),
+        Frame::Cancel(id) => write_id(2, id, &mut bytes),
+        Frame::Clock(reading) => {
+            bytes.push(3);
+            bytes.extend_from_slice(&reading.to_be_bytes());
+        }
         Frame::Program(number, program) => {
             bytes.extend_from_slice(&[4, number, program.primacy]);
             bytes.extend_from_slice(&program.defaults.to_be_bytes());
         }
         Frame::Ask(control) => bytes.extend_from_slice(&[5, control]),
-        Frame::Choice(id, Choice::Out) => write_number(6, id, &mut bytes),
-        Frame::Choice(id, Choice::In) => write_number(7, id, &mut bytes),
+        Frame::Choice(id, Choice::Out) => write_id(6, id, &mut bytes),
+        Frame::Choice(id, Choice::In) => write_id(7, id, &mut bytes),
     }
     hex(&bytes)
 }
 
-fn write_number(kind: u8, number: u64, bytes: &mut Vec<u8>) {
+fn write_id(kind: u8, id: u128, bytes: &mut Vec<u8>) {
     bytes.push(kind);
-    bytes.extend_from_slice(&number.to_be_bytes());
+    bytes.extend_from_slice(&id.to_be_bytes());
 }
 
 pub fn hex(bytes: &[u8]) -> Vec<u8> {

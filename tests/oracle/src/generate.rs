@@ -5,7 +5,8 @@ use crate::calls::Calls;
 use crate::choice::Choice;
 use crate::event::{is_usable, Event, Program, LAST_CLOCK, MOST_EVENTS};
 use crate::fast::Fast;
-use crate::frame::{encode, hex, Frame};
+use crate::frame::{encode, hex, Frame, ID_BYTES};
+use crate::ids;
 use crate::image::Entry;
 use crate::random::Dice;
 
@@ -25,6 +26,7 @@ enum Masks {
 #[derive(Clone, Copy, Debug)]
 pub struct Profile {
     pub name: &'static str,
+    /// How many small numbers ids are made of.
     ids: u64,
     /// How far after the clock a drawn start mostly lies.
     ahead: u64,
@@ -39,11 +41,12 @@ pub struct Profile {
 
 type Action = fn(&mut Generator);
 
-const ACTIONS: [Action; 20] = [
+const ACTIONS: [Action; 21] = [
     Generator::deliver_ahead,
     Generator::deliver_late,
     Generator::deliver_at_edge,
     Generator::deliver_again,
+    Generator::deliver_twin,
     Generator::deliver_changed,
     Generator::deliver_spoiled,
     Generator::fill,
@@ -66,7 +69,10 @@ const SOME: &[u8] = &[0, 1, 2, 65, 66, 190, 191];
 
 const MIXED: &str = "mixed";
 
-/// The columns of `odds`: ahead, late, edge, again, changed, spoiled, fill, cancel, at moment,
+/// The number of ids of a profile whose ids are of any size.
+const ALL: u64 = u64::MAX;
+
+/// The columns of `odds`: ahead, late, edge, again, twin, changed, spoiled, fill, cancel, at moment,
 /// unknown, choose, at moment, unknown, step, to change, drain, bad clock, program, ask, damage.
 pub const PROFILES: [Profile; 12] = [
     Profile {
@@ -79,7 +85,7 @@ pub const PROFILES: [Profile; 12] = [
         primacies: SOME,
         creations: 4,
         odds: [
-            30, 6, 2, 2, 2, 1, 0, 3, 3, 1, 5, 6, 1, 20, 16, 1, 1, 1, 8, 1,
+            30, 6, 2, 2, 4, 2, 1, 0, 3, 3, 1, 5, 6, 1, 20, 16, 1, 1, 1, 8, 1,
         ],
     },
     Profile {
@@ -91,7 +97,9 @@ pub const PROFILES: [Profile; 12] = [
         masks: Masks::Spread,
         primacies: SOME,
         creations: 9,
-        odds: [60, 4, 1, 2, 1, 1, 2, 2, 2, 1, 3, 3, 1, 8, 8, 0, 1, 1, 6, 1],
+        odds: [
+            60, 4, 1, 2, 2, 1, 1, 2, 2, 2, 1, 3, 3, 1, 8, 8, 0, 1, 1, 6, 1,
+        ],
     },
     Profile {
         name: "wide",
@@ -103,7 +111,7 @@ pub const PROFILES: [Profile; 12] = [
         primacies: SOME,
         creations: 6,
         odds: [
-            36, 5, 1, 1, 1, 1, 0, 3, 2, 1, 4, 5, 1, 12, 20, 1, 1, 1, 16, 1,
+            36, 5, 1, 1, 2, 1, 1, 0, 3, 2, 1, 4, 5, 1, 12, 20, 1, 1, 1, 16, 1,
         ],
     },
     Profile {
@@ -116,7 +124,7 @@ pub const PROFILES: [Profile; 12] = [
         primacies: &[1],
         creations: 2,
         odds: [
-            40, 4, 1, 1, 1, 0, 0, 2, 2, 0, 3, 5, 0, 12, 20, 1, 0, 1, 8, 0,
+            40, 4, 1, 1, 8, 1, 0, 0, 2, 2, 0, 3, 5, 0, 12, 20, 1, 0, 1, 8, 0,
         ],
     },
     Profile {
@@ -129,7 +137,7 @@ pub const PROFILES: [Profile; 12] = [
         primacies: SOME,
         creations: 5,
         odds: [
-            8, 40, 10, 2, 2, 1, 0, 2, 3, 1, 4, 6, 1, 14, 16, 1, 1, 1, 8, 0,
+            8, 40, 10, 2, 2, 2, 1, 0, 2, 3, 1, 4, 6, 1, 14, 16, 1, 1, 1, 8, 0,
         ],
     },
     Profile {
@@ -142,7 +150,7 @@ pub const PROFILES: [Profile; 12] = [
         primacies: &[0, 1, 1, 2],
         creations: 2,
         odds: [
-            40, 8, 3, 2, 2, 0, 0, 3, 3, 2, 5, 8, 2, 16, 20, 4, 0, 1, 6, 0,
+            40, 8, 3, 2, 3, 2, 0, 0, 3, 3, 2, 5, 8, 2, 16, 20, 4, 0, 1, 6, 0,
         ],
     },
     Profile {
@@ -155,7 +163,7 @@ pub const PROFILES: [Profile; 12] = [
         primacies: SOME,
         creations: 3,
         odds: [
-            36, 4, 1, 2, 1, 0, 0, 8, 16, 3, 5, 12, 1, 12, 12, 1, 0, 1, 10, 0,
+            36, 4, 1, 2, 2, 1, 0, 0, 8, 16, 3, 5, 12, 1, 12, 12, 1, 0, 1, 10, 0,
         ],
     },
     Profile {
@@ -168,7 +176,7 @@ pub const PROFILES: [Profile; 12] = [
         primacies: SOME,
         creations: 3,
         odds: [
-            24, 4, 1, 1, 1, 0, 0, 2, 3, 0, 16, 40, 2, 8, 8, 1, 0, 1, 10, 0,
+            24, 4, 1, 1, 2, 1, 0, 0, 2, 3, 0, 16, 40, 2, 8, 8, 1, 0, 1, 10, 0,
         ],
     },
     Profile {
@@ -181,7 +189,7 @@ pub const PROFILES: [Profile; 12] = [
         primacies: SOME,
         creations: 5,
         odds: [
-            12, 3, 10, 6, 10, 20, 2, 3, 3, 8, 3, 3, 6, 6, 6, 1, 8, 10, 8, 12,
+            12, 3, 10, 6, 2, 10, 20, 2, 3, 3, 8, 3, 3, 6, 6, 6, 1, 8, 10, 8, 12,
         ],
     },
     Profile {
@@ -193,11 +201,13 @@ pub const PROFILES: [Profile; 12] = [
         masks: Masks::Few,
         primacies: SOME,
         creations: 5,
-        odds: [12, 2, 1, 1, 1, 2, 0, 2, 1, 1, 2, 2, 1, 8, 6, 1, 2, 2, 4, 40],
+        odds: [
+            12, 2, 1, 1, 1, 1, 2, 0, 2, 1, 1, 2, 2, 1, 8, 6, 1, 2, 2, 4, 40,
+        ],
     },
     Profile {
         name: "far",
-        ids: u64::MAX,
+        ids: ALL,
         ahead: 2_000_000,
         longest: u32::MAX as u64,
         step: 2_000_000,
@@ -205,12 +215,12 @@ pub const PROFILES: [Profile; 12] = [
         primacies: SOME,
         creations: 1 << 32,
         odds: [
-            30, 12, 2, 2, 2, 2, 0, 10, 3, 1, 8, 3, 1, 20, 10, 0, 2, 1, 10, 1,
+            30, 12, 2, 2, 2, 2, 2, 0, 10, 3, 1, 8, 3, 1, 20, 10, 0, 2, 1, 10, 1,
         ],
     },
     Profile {
         name: "busy",
-        ids: u64::MAX,
+        ids: ALL,
         ahead: 300,
         longest: 600,
         step: 40,
@@ -218,7 +228,7 @@ pub const PROFILES: [Profile; 12] = [
         primacies: SOME,
         creations: 1 << 20,
         odds: [
-            40, 4, 0, 3, 0, 0, 0, 3, 0, 0, 4, 0, 0, 40, 0, 0, 0, 0, 10, 0,
+            40, 4, 0, 3, 1, 0, 0, 0, 3, 0, 0, 4, 0, 0, 40, 0, 0, 0, 0, 10, 0,
         ],
     },
 ];
@@ -464,7 +474,7 @@ impl Generator {
     }
 
     /// An id that is not held, if some tries find one.
-    fn free_id(&mut self) -> u64 {
+    fn free_id(&mut self) -> u128 {
         let held = self.schedule.entries();
         for _ in 0..8 {
             let id = self.any_id();
@@ -475,11 +485,26 @@ impl Generator {
         self.any_id()
     }
 
-    fn any_id(&mut self) -> u64 {
+    fn any_id(&mut self) -> u128 {
         match self.dice.below(30) {
-            0 => u64::MAX - self.dice.below(2),
+            0 => u128::MAX - u128::from(self.dice.below(2)),
             1 => 0,
-            _ => 1 + self.dice.below(self.profile.ids),
+            2..=4 => self.id_beside(),
+            _ if self.profile.ids == ALL => ids::any(&mut self.dice),
+            _ => self.id_around(),
+        }
+    }
+
+    fn id_around(&mut self) -> u128 {
+        let small = 1 + self.dice.below(self.profile.ids);
+        ids::around(&mut self.dice, small)
+    }
+
+    /// Has a half of a held id.
+    fn id_beside(&mut self) -> u128 {
+        match self.any_held() {
+            Some(entry) => ids::beside(&mut self.dice, entry.event.id),
+            None => self.id_around(),
         }
     }
 
@@ -521,6 +546,17 @@ impl Generator {
     fn deliver_again(&mut self) {
         match self.any_held() {
             Some(entry) => self.put(Frame::Event(entry.event)),
+            None => self.deliver_ahead(),
+        }
+    }
+
+    /// A held event under an id that has a half of its own, so that often the id alone breaks a tie.
+    fn deliver_twin(&mut self) {
+        match self.any_held() {
+            Some(Entry { mut event, .. }) => {
+                event.id = ids::beside(&mut self.dice, event.id);
+                self.put(Frame::Event(event));
+            }
             None => self.deliver_ahead(),
         }
     }
@@ -585,7 +621,8 @@ impl Generator {
         for _ in 0..missing + 2 {
             let target = self.clock() + 1 + self.amount(self.profile.ahead);
             let mut event = self.event_at(target);
-            event.id = self.dice.roll() >> 40;
+            let small = self.dice.roll() >> 40;
+            event.id = ids::around(&mut self.dice, small);
             self.put(Frame::Event(event));
         }
     }
@@ -639,10 +676,11 @@ impl Generator {
         Some(entry)
     }
 
-    fn unknown_id(&mut self) -> u64 {
-        match self.dice.chance(1, 2) {
-            true => self.dice.roll(),
-            false => self.free_id(),
+    fn unknown_id(&mut self) -> u128 {
+        match self.dice.below(3) {
+            0 => ids::any(&mut self.dice),
+            1 => self.id_beside(),
+            _ => self.free_id(),
         }
     }
 
@@ -811,7 +849,7 @@ impl Generator {
     fn hurt(&mut self, line: &mut Vec<u8>) {
         let at = self.dice.below(line.len() as u64) as usize;
         let foreign = b"\0\r \t/:@G`g.-\x7f\x80\xc3\xff";
-        match self.dice.below(13) {
+        match self.dice.below(15) {
             0 => lower_case(line),
             1 => drop(line.pop()),
             2 => line.push(b'0'),
@@ -822,12 +860,20 @@ impl Generator {
             9 => line[..2].copy_from_slice(self.dice.pick(&[b"00", b"08", b"09", b"FF"])),
             10 => line[..2].copy_from_slice(self.dice.pick(&[b"01", b"02", b"05", b"06", b"07"])),
             11 => line.clear(),
+            12 | 13 => self.shorten_id(line),
             _ => *line = self.noise(),
         }
     }
 
+    /// Takes bytes off the front of an id, mostly eight: a frame with an id of 64 bits.
+    fn shorten_id(&mut self, line: &mut Vec<u8>) {
+        let bytes = self.dice.pick(&[8, 8, 8, 1, 4, 7, 9, ID_BYTES]);
+        let end = line.len().min(2 + 2 * bytes);
+        line.drain(2..end);
+    }
+
     fn noise(&mut self) -> Vec<u8> {
-        let size = self.dice.pick(&[1, 2, 3, 9, 34, 35, 500]);
+        let size = self.dice.pick(&[1, 2, 3, 9, 17, 34, 42, 43, 500]);
         let bytes: Vec<u8> = (0..size).map(|_| self.dice.roll() as u8).collect();
         match self.dice.chance(1, 2) {
             true => hex(&bytes),

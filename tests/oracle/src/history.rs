@@ -200,7 +200,7 @@ pub struct Scheduler {
     /// Every event ever accepted, in the order of acceptance.
     history: Vec<Past>,
     /// Id and index in the history of what is held, by id.
-    held: Vec<(u64, usize)>,
+    held: Vec<(u128, usize)>,
     clock: u64,
     /// The events before this index had all ended at a clock at which nothing was held, so they
     /// cannot meet any later event, and their spans are not worked out again.
@@ -276,7 +276,7 @@ impl Scheduler {
     }
 
     /// Where the id is held, or where it would go.
-    fn find(&self, id: u64) -> Result<usize, usize> {
+    fn find(&self, id: u128) -> Result<usize, usize> {
         self.held.binary_search_by_key(&id, |&(held, _)| held)
     }
 
@@ -393,7 +393,7 @@ impl Calls for Scheduler {
         Ok(1)
     }
 
-    fn cancel(&mut self, id: u64) -> Result<u8, u8> {
+    fn cancel(&mut self, id: u128) -> Result<u8, u8> {
         let at = self.find(id).map_err(|_| 11)?;
         let past = &mut self.history[self.held[at].1];
         if past.cancelled_at.is_some() {
@@ -404,7 +404,7 @@ impl Calls for Scheduler {
         Ok(6)
     }
 
-    fn choose(&mut self, id: u64, choice: Choice) -> Result<u8, u8> {
+    fn choose(&mut self, id: u128, choice: Choice) -> Result<u8, u8> {
         let at = self.find(id).map_err(|_| 11)?;
         let past = &mut self.history[self.held[at].1];
         if past.choice_at(self.clock) == choice {

@@ -1,11 +1,11 @@
-//! The image of 2,313 bytes, its rules, and the record that a listing gives.
+//! The image of 2,697 bytes, its rules, and the record that a listing gives.
 
 use crate::choice::Participation;
 use crate::event::{is_usable, Event, Program, Programs, LAST_CLOCK, MOST_EVENTS};
 use crate::frame::{part, read_event, write_event, EVENT_FIELDS};
 
-pub const IMAGE_BYTES: usize = 2_313;
-pub const ENTRY_BYTES: usize = 47;
+pub const IMAGE_BYTES: usize = 2_697;
+pub const ENTRY_BYTES: usize = 55;
 /// A listed record over C: an image entry, then the earliest start.
 pub const RECORD_BYTES: usize = ENTRY_BYTES + 8;
 const PROGRAM_BYTES: usize = 6;

@@ -1,5 +1,5 @@
-//! An independent scheduler for document 01 with #101 and #102 of document 02, made to be compared
-//! with a proved one.
+//! An independent scheduler for document 01 with #101, #102 and #104 of document 02, made to be
+//! compared with a proved one.
 //!
 //! `Scheduler` works every answer out from the history of accepted calls by intervals. `Fast` keeps
 //! only the present state and is the rival in speed. Both speak the calls of `Calls`, which also
@@ -15,6 +15,7 @@ pub mod fast;
 pub mod frame;
 pub mod generate;
 pub mod history;
+pub mod ids;
 pub mod image;
 pub mod pair;
 pub mod program;

@@ -10,6 +10,7 @@ use crate::event::{Event, Program};
 use crate::fast::Fast;
 use crate::frame::{encode, Frame};
 use crate::generate::{idle_line, join};
+use crate::ids;
 use crate::random::Dice;
 
 /// An event with the clocks between which it may be received, the one at which it is cancelled and
@@ -46,12 +47,12 @@ pub fn pair(seed: u64) -> (Vec<u8>, Vec<u8>) {
 fn draw_scenario(dice: &mut Dice) -> Scenario {
     let programs = draw_programs(dice);
     let size = dice.pick(&[0, 1, 2, 3, 5, 8, 12, 20, 30, 44, 60, 90]);
-    let ids = dice.pick(&[2, 4, 10, 1_000]);
+    let ids = dice.pick(&[2, 4, 10, 1_000, u64::MAX]);
     let span = dice.pick(&[5, 20, 60, 300]);
     let mut free_from = BTreeMap::new();
     let mut events = Vec::new();
     for _ in 0..size {
-        let id = dice.below(ids);
+        let id = draw_id(dice, ids, &events);
         let earliest = free_from.get(&id).copied().unwrap_or(0);
         let program = dice.pick(&programs).0;
         let planned = draw_planned(dice, id, program, earliest, span);
@@ -61,6 +62,15 @@ fn draw_scenario(dice: &mut Dice) -> Scenario {
         }
     }
     cut(dice, programs, events)
+}
+
+/// Often one that has a half of the id drawn before.
+fn draw_id(dice: &mut Dice, ids: u64, events: &[Planned]) -> u128 {
+    let small = dice.below(ids);
+    match events.last() {
+        Some(before) if dice.chance(1, 4) => ids::beside(dice, before.event.id),
+        _ => ids::around(dice, small),
+    }
 }
 
 fn draw_programs(dice: &mut Dice) -> Vec<(u8, Program)> {
@@ -75,7 +85,7 @@ fn draw_programs(dice: &mut Dice) -> Vec<(u8, Program)> {
 }
 
 /// An event that can be received from `earliest` on and before its drawn start.
-fn draw_planned(dice: &mut Dice, id: u64, program: u8, earliest: u64, span: u64) -> Planned {
+fn draw_planned(dice: &mut Dice, id: u128, program: u8, earliest: u64, span: u64) -> Planned {
     let randomize_start = dice.pick(&[0, 0, 0, 4, -4, 30, -30]);
     let randomize_duration = dice.pick(&[0, 0, 0, 3, -3, 25]);
     let start_draw = dice.between(0.min(randomize_start), 0.max(randomize_start));
@@ -169,11 +179,11 @@ struct Task {
 }
 
 impl Task {
-    fn delivers(&self, id: u64) -> bool {
+    fn delivers(&self, id: u128) -> bool {
         matches!(self.frame, Frame::Event(event) if event.id == id)
     }
 
-    fn chooses(&self, id: u64) -> bool {
+    fn chooses(&self, id: u128) -> bool {
         matches!(self.frame, Frame::Choice(of, _) if of == id)
     }
 }

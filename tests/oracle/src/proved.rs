@@ -3,6 +3,7 @@
 
 use crate::choice::Choice;
 use crate::event::{Event, Program};
+use crate::ids::halves;
 
 extern "C" {
     fn hadulmir_fresh(image: *mut u8, image_len: usize) -> i32;
@@ -18,7 +19,8 @@ extern "C" {
     fn hadulmir_deliver(
         image: *mut u8,
         image_len: usize,
-        id: u64,
+        id_high: u64,
+        id_low: u64,
         program: u8,
         controls: u32,
         created: u32,
@@ -30,11 +32,11 @@ extern "C" {
         duration_draw: u16,
     ) -> i32;
 
-    fn hadulmir_cancel(image: *mut u8, image_len: usize, id: u64) -> i32;
+    fn hadulmir_cancel(image: *mut u8, image_len: usize, id_high: u64, id_low: u64) -> i32;
 
-    fn hadulmir_opt_out(image: *mut u8, image_len: usize, id: u64) -> i32;
+    fn hadulmir_opt_out(image: *mut u8, image_len: usize, id_high: u64, id_low: u64) -> i32;
 
-    fn hadulmir_opt_in(image: *mut u8, image_len: usize, id: u64) -> i32;
+    fn hadulmir_opt_in(image: *mut u8, image_len: usize, id_high: u64, id_low: u64) -> i32;
 
     fn hadulmir_set_clock(
         image: *mut u8,
@@ -56,6 +58,8 @@ extern "C" {
         -> i32;
 }
 
+// An id is given as two numbers, the upper half first.
+//
 // Each pointer below is that of a slice and goes with its length, no slice is shared with another,
 // and all pointers of slices are other than null. The header asks for no more.
 
@@ -69,11 +73,13 @@ pub fn add_program(image: &mut [u8], number: u8, program: &Program) -> i32 {
 }
 
 pub fn deliver(image: &mut [u8], event: &Event) -> i32 {
+    let (id_high, id_low) = halves(event.id);
     unsafe {
         hadulmir_deliver(
             image.as_mut_ptr(),
             image.len(),
-            event.id,
+            id_high,
+            id_low,
             event.program,
             event.controls,
             event.creation,
@@ -87,14 +93,17 @@ pub fn deliver(image: &mut [u8], event: &Event) -> i32 {
     }
 }
 
-pub fn cancel(image: &mut [u8], id: u64) -> i32 {
-    unsafe { hadulmir_cancel(image.as_mut_ptr(), image.len(), id) }
+pub fn cancel(image: &mut [u8], id: u128) -> i32 {
+    let (id_high, id_low) = halves(id);
+    unsafe { hadulmir_cancel(image.as_mut_ptr(), image.len(), id_high, id_low) }
 }
 
-pub fn choose(image: &mut [u8], id: u64, choice: Choice) -> i32 {
+pub fn choose(image: &mut [u8], id: u128, choice: Choice) -> i32 {
+    let (id_high, id_low) = halves(id);
+    let (bytes, size) = (image.as_mut_ptr(), image.len());
     match choice {
-        Choice::Out => unsafe { hadulmir_opt_out(image.as_mut_ptr(), image.len(), id) },
-        Choice::In => unsafe { hadulmir_opt_in(image.as_mut_ptr(), image.len(), id) },
+        Choice::Out => unsafe { hadulmir_opt_out(bytes, size, id_high, id_low) },
+        Choice::In => unsafe { hadulmir_opt_in(bytes, size, id_high, id_low) },
     }
 }
 
@@ -138,8 +147,8 @@ pub fn list(image: &mut [u8], records: &mut [u8]) -> i32 {
 pub enum Call {
     Program(u8, Program),
     Deliver(Event),
-    Cancel(u64),
-    Choice(u64, Choice),
+    Cancel(u128),
+    Choice(u128, Choice),
     Clock(u64, usize),
     Ask(u8, usize),
     List(usize),

@@ -5,6 +5,7 @@ use std::collections::BTreeSet;
 
 use crate::choice::{Choice, Participation};
 use crate::event::{Event, Program, Programs, LAST_CLOCK};
+use crate::ids;
 use crate::image::{Entry, Image};
 use crate::random::Dice;
 
@@ -21,7 +22,9 @@ pub fn random_image(dice: &mut Dice) -> Image {
     };
     let programs = random_programs(dice);
     let mut free = u32::MAX;
-    let ids = random_ids(dice).into_iter();
+    let most = dice.pick(&[3, 8, 14, 30, 48]);
+    let range = dice.pick(&[60, 1_000, u64::MAX]);
+    let ids = random_ids(dice, most, range).into_iter();
     let entries = ids
         .filter_map(|id| random_entry(dice, id, &programs, clock, &mut free))
         .collect();
@@ -42,16 +45,25 @@ fn random_programs(dice: &mut Dice) -> Programs {
     programs
 }
 
-fn random_ids(dice: &mut Dice) -> BTreeSet<u64> {
-    let most = dice.pick(&[3, 8, 14, 30, 48]);
-    let range = dice.pick(&[60, 1_000, u64::MAX]);
-    (0..=dice.below(most)).map(|_| dice.below(range)).collect()
+/// At most so many, made of numbers in the range. Often one has a half of the one before.
+pub(crate) fn random_ids(dice: &mut Dice, most: u64, range: u64) -> BTreeSet<u128> {
+    let count = 1 + dice.below(most);
+    let mut id = 0;
+    let next = |_| {
+        let small = dice.below(range);
+        id = match dice.chance(1, 4) {
+            true => ids::beside(dice, id),
+            false => ids::around(dice, small),
+        };
+        id
+    };
+    (0..count).map(next).collect()
 }
 
 /// `None` if the drawn fields break a rule.
 fn random_entry(
     dice: &mut Dice,
-    id: u64,
+    id: u128,
     programs: &Programs,
     clock: u64,
     free: &mut u32,
@@ -102,7 +114,7 @@ fn random_participation(dice: &mut Dice, started: bool, held: u32) -> Participat
     }
 }
 
-fn random_event(dice: &mut Dice, id: u64, clock: i64) -> Event {
+fn random_event(dice: &mut Dice, id: u128, clock: i64) -> Event {
     let (randomize_start, start_draw) = random_draw(dice);
     let (randomize_duration, duration_draw) = random_draw(dice);
     let around = clock + dice.between(-NEAR, NEAR);

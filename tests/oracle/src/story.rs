@@ -32,7 +32,7 @@ impl Names {
             _ => (String::new(), line),
         };
         let (number, name) = rest.split_once(' ')?;
-        let key = format!("{kind}{}", number.parse::<u64>().ok()?);
+        let key = format!("{kind}{}", number.parse::<u128>().ok()?);
         self.0.entry(key).or_default().push(name.trim().into());
         Some(())
     }
@@ -76,8 +76,8 @@ pub struct Story<'a> {
     pub readings: Vec<u64>,
     pub scheduler: Scheduler,
     /// The last event under an id, and how often the id was used.
-    latest: HashMap<u64, usize>,
-    uses: HashMap<u64, usize>,
+    latest: HashMap<u128, usize>,
+    uses: HashMap<u128, usize>,
 }
 
 impl<'a> Story<'a> {
@@ -149,7 +149,7 @@ impl<'a> Story<'a> {
     }
 
     /// What the event holds at this clock counts as held, so its bars end one second later.
-    fn cancel(&mut self, id: u64) {
+    fn cancel(&mut self, id: u128) {
         let mask = mask_of(&self.entries(), id);
         if self.scheduler.cancel(id) != Ok(6) {
             return;
@@ -161,7 +161,7 @@ impl<'a> Story<'a> {
     }
 
     /// A repeat of the present choice leaves nothing in the picture either.
-    fn choose(&mut self, id: u64, choice: Choice) {
+    fn choose(&mut self, id: u128, choice: Choice) {
         if self.scheduler.choose(id, choice) != Ok(choice.code()) {
             return;
         }
@@ -171,7 +171,7 @@ impl<'a> Story<'a> {
     }
 
     /// What a call answers goes to the controls that the event holds, or to all that it carries.
-    fn mark_call(&mut self, id: u64, code: u8, mask: u32) -> &mut Known {
+    fn mark_call(&mut self, id: u128, code: u8, mask: u32) -> &mut Known {
         let who = self.latest[&id];
         let known = &mut self.known[who];
         let controls = match mask {
@@ -321,7 +321,7 @@ impl Known {
     }
 }
 
-fn mask_of(entries: &[Entry], id: u64) -> u32 {
+fn mask_of(entries: &[Entry], id: u128) -> u32 {
     let found = entries.iter().find(|entry| entry.event.id == id);
     found.map_or(0, |entry| entry.held)
 }

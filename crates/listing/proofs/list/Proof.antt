@@ -104,7 +104,7 @@ parts r {v} is = LL.owed Ga.the-type Ga′.the-laws r (v ∷ []) is
 
 -- bytes from one record of an array to the next
 abbrev stride : ℕ
-stride = 64
+stride = 72
 
 -- the machine value of a record
 abbrev held : Record → List Val

@@ -5,7 +5,7 @@ use native.Mathlib.Omega.{arith}
 use borrow.Author.Needs.{needs}
 use lib.ListN.{take, drop}
 use Rattle.rules.specs.Records.{idNumber, join, programAt}
-use Rattle.rules.proofs.IdLaws.{zero-id}
+use Rattle.rules.proofs.IdLaws.{number-id}
 use Rattle.rules.proofs.Lengths.{Lengths, lengths}
 use Rattle.sound.proofs.Backward.{EntriesPassed, start, turn}
 use Rattle.sound.proofs.has_sound_entries.Statement.{statement}
@@ -21,7 +21,7 @@ abbrev μ-loop : tie.MeasureT-loop
 loop-holds : tie.Need-loop-holds Inv-loop μ-loop
 loop-holds c =
     let s = c .before .args .t1 in
-    (omega arith, lengths s _ (c .before .good .0), rw (c .of .ensures, zero-id) (start (s .programs) (s .clock) (s .count) (s .entries)))
+    (omega arith, lengths s _ (c .before .good .0), rw (c .of .ensures, number-id) (start (s .programs) (s .clock) (s .count) (s .entries)))
 
 loop-again : tie.Need-loop-again Inv-loop μ-loop
 unfolding join

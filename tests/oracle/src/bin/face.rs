@@ -9,7 +9,9 @@ use std::time::Instant;
 use oracle::beside::{compare, make_fresh, same_from, Broken, Lent, Oracle, Outcome, Seen, SIDES};
 use oracle::calls::{lines_of, AMPLE, ROW_BYTES};
 use oracle::event::MOST_EVENTS;
+use oracle::frame::{EVENT_FIELDS, ID_BYTES};
 use oracle::generate::{generate, go_on, profile_names};
+use oracle::ids;
 use oracle::image::{self, ENTRY_BYTES, IMAGE_BYTES, RECORD_BYTES};
 use oracle::pair::pair;
 use oracle::proved::Call;
@@ -26,7 +28,7 @@ const LISTS: u64 = 20_000;
 
 /// Where the event entries begin in an image, and the held mask and the choice byte in an entry.
 const EVENTS_AT: usize = 57;
-const MASK_AT: usize = 41;
+const MASK_AT: usize = EVENT_FIELDS + 8;
 const CHOICE_AT: usize = ENTRY_BYTES - 1;
 
 fn main() -> ExitCode {
@@ -304,7 +306,7 @@ fn conclusion(face: &mut Face, dice: Dice, text: &[u8]) -> Outcome<Conclusion> {
     let (listed, mut listing) = run.call(&Call::List(MOST_EVENTS * RECORD_BYTES))?;
     listing.truncate(listed as usize * RECORD_BYTES);
     let ask = |control| {
-        let (answer, id) = run.call(&Call::Ask(control, 8))?;
+        let (answer, id) = run.call(&Call::Ask(control, ID_BYTES))?;
         Ok((answer, if answer == 1 { id } else { Vec::new() }))
     };
     Ok(Conclusion {
@@ -514,8 +516,9 @@ impl<'a, O: Oracle> Run<'a, O> {
 
     /// A call with numbers of any size.
     fn wild(&mut self) -> Outcome {
-        let any = [(); 6].map(|()| self.dice.roll());
-        let [id, small, long, short, mask, other] = any;
+        let any = [(); 5].map(|()| self.dice.roll());
+        let [small, long, short, mask, other] = any;
+        let id = ids::any(&mut self.dice);
         let program = Program {
             primacy: small as u8,
             defaults: mask as u32,
@@ -538,7 +541,7 @@ impl<'a, O: Oracle> Run<'a, O> {
             Call::Cancel(id),
             Call::Choice(id, Choice::Out),
             Call::Choice(id, Choice::In),
-            Call::Ask(small as u8, 8),
+            Call::Ask(small as u8, ID_BYTES),
         ];
         let call = self.dice.pick(&calls);
         self.make(&call)
@@ -578,7 +581,7 @@ impl<'a, O: Oracle> Run<'a, O> {
     }
 
     fn ask(&mut self, control: u8) -> Outcome {
-        let choices: [&[usize]; 5] = [&[7], &[8], &[20], &[0, 8], &[7, 8, 20]];
+        let choices: [&[usize]; 6] = [&[15], &[16], &[28], &[0, 16], &[8, 16], &[15, 16, 28]];
         for &room in self.dice.pick(&choices) {
             self.make(&Call::Ask(control, room))?;
         }
@@ -612,12 +615,13 @@ impl<'a, O: Oracle> Run<'a, O> {
     /// For an image that refuses all. Some of the calls give cause for other refusals too.
     fn one_of_each(&mut self) -> Outcome {
         let number = self.dice.below(10) as u8;
+        let small = self.dice.below(60);
         let program = Program {
             primacy: self.dice.pick(&[0, 1, 3, 65]),
             defaults: self.dice.roll() as u32,
         };
         let event = Event {
-            id: self.dice.below(60),
+            id: ids::around(&mut self.dice, small),
             program: number,
             controls: self.dice.below(4) as u32,
             start: self.dice.pick(&[0, 3_600, 4_000, u32::MAX]),

@@ -8,6 +8,7 @@ use std::process::{Child, ChildStdin, Command, ExitCode, Stdio};
 use std::thread;
 use std::time::{Duration, Instant};
 
+use oracle::frame::ID_BYTES;
 use oracle::generate::{generate, profile_names};
 use oracle::pair::pair;
 use oracle::program::{same, EXAMPLE, EXAMPLE_OUTPUT};
@@ -48,6 +49,8 @@ fn test_all(tests: &mut Tests, lists: u64) {
     tests.section("sound frames", sound_frames);
     tests.section("damaged frames", damaged_frames);
     tests.section("kinds and lengths", kinds_and_lengths);
+    tests.section("shorter ids", shorter_ids);
+    tests.section("ids of all sizes", ids_of_all_sizes);
     tests.section("short and long lines", short_and_long_lines);
     tests.section("first and last lines", first_and_last_lines);
     tests.section("borders of reads", borders);
@@ -187,7 +190,7 @@ fn finish(mut child: Child) -> io::Result<Vec<u8>> {
 const OPENING: &str = "\
 04000100000001
 030000000000000FA0
-010000000000ABCDEF00000000010000006400001388000002580000000000000000
+0100000000000000000000000000ABCDEF00000000010000006400001388000002580000000000000000
 ";
 const OPENED: &str = "4000 11259375 1\n";
 
@@ -198,17 +201,17 @@ const CLOSED: &str = "5000 11259375 2\n0 event 11259375\n2 none\n";
 
 /// After the opening: out twice, in twice and out before the start, then in again at it.
 const CHOICES: &str = "\
-060000000000ABCDEF
-060000000000ABCDEF
-070000000000ABCDEF
-070000000000ABCDEF
-060000000000ABCDEF
+0600000000000000000000000000ABCDEF
+0600000000000000000000000000ABCDEF
+0700000000000000000000000000ABCDEF
+0700000000000000000000000000ABCDEF
+0600000000000000000000000000ABCDEF
 030000000000001388
 0500
-070000000000ABCDEF
+0700000000000000000000000000ABCDEF
 0500
 0300000000000015E0
-060000000000ABCDEF
+0600000000000000000000000000ABCDEF
 ";
 const CHOSEN: &str = "\
 4000 11259375 4
@@ -237,21 +240,27 @@ struct Sound {
     printed: &'static str,
 }
 
+impl Sound {
+    fn has_id(&self) -> bool {
+        matches!(self.kind, "event" | "cancel" | "opt-out" | "opt-in")
+    }
+}
+
 const SOUND: [Sound; 7] = [
     EVENT,
     Sound {
         kind: "cancel",
-        line: "020000000000ABCDEF",
+        line: "0200000000000000000000000000ABCDEF",
         printed: "4000 11259375 6\n",
     },
     Sound {
         kind: "opt-out",
-        line: "060000000000ABCDEF",
+        line: "0600000000000000000000000000ABCDEF",
         printed: "4000 11259375 4\n",
     },
     Sound {
         kind: "opt-in",
-        line: "070000000000ABCDEE",
+        line: "0700000000000000000000000000ABCDEE",
         printed: "refused 11\n",
     },
     Sound {
@@ -273,7 +282,7 @@ const SOUND: [Sound; 7] = [
 
 const EVENT: Sound = Sound {
     kind: "event",
-    line: "0100000000000000AB000000000C0000006E0000138A0000025F000A000B000A000B",
+    line: "01000000000000000000000000000000AB000000000C0000006E0000138A0000025F000A000B000A000B",
     printed: "4000 171 1\n",
 };
 
@@ -412,13 +421,13 @@ fn kinds_and_lengths(tests: &mut Tests) {
             .collect();
         expect_refusals(tests, &format!("{length} digits of other kinds"), &lines);
     }
-    for length in [67, 68, 69, 70] {
+    for length in [83, 84, 85, 86] {
         event_of_lengths(tests, &format!("{length} bytes"), length..=length);
     }
-    event_of_lengths(tests, "0 to 140 bytes", 0..=140);
+    event_of_lengths(tests, "0 to 172 bytes", 0..=172);
 }
 
-/// The event's line cut or with digits behind it: right at 68 alone.
+/// The event's line cut or with digits behind it: right at 84 alone.
 fn event_of_lengths(tests: &mut Tests, name: &str, lengths: std::ops::RangeInclusive<usize>) {
     let long = EVENT.line.repeat(3);
     let mut text = OPENING.to_string();
@@ -426,13 +435,49 @@ fn event_of_lengths(tests: &mut Tests, name: &str, lengths: std::ops::RangeInclu
     for length in lengths {
         text.extend([&long[..length], "\n"]);
         expected.push_str(match length {
-            68 => EVENT.printed,
+            84 => EVENT.printed,
             _ => REFUSED,
         });
     }
     text.push_str(TAIL);
     expected.push_str(TAIL_ANSWER);
     tests.expect(name, text.as_bytes(), Feed::File, expected.as_bytes());
+}
+
+/// Each frame with an id, once for each number of bytes that its id may lack. The bytes are taken
+/// off the front, which is zero, so that the rest is the id in fewer bytes, with eight the frame
+/// of an id of 64 bits; or off the end.
+fn shorter_ids(tests: &mut Tests) {
+    for sound in SOUND.iter().filter(|sound| sound.has_id()) {
+        let (kind, rest) = sound.line.split_at(2);
+        let (id, fields) = rest.split_at(2 * ID_BYTES);
+        for missing in 1..=ID_BYTES {
+            let kept = 2 * (ID_BYTES - missing);
+            let lines = [&id[2 * missing..], &id[..kept]]
+                .map(|id| [kind, id, fields].concat().into_bytes());
+            let name = format!("{} with {missing} bytes of its id missing", sound.kind);
+            expect_refusals(tests, &name, &lines);
+        }
+    }
+}
+
+/// The numbers around each border of digits and of halves, delivered, asked for, opted out of and
+/// cancelled, each in a list of its own.
+fn ids_of_all_sizes(tests: &mut Tests) {
+    let tens = (0..39).map(|power| 10u128.pow(power));
+    let twos = (0..128).map(|power| 1 << power);
+    let borders = tens.chain(twos).flat_map(|border| [border - 1, border]);
+    for id in borders.chain([u128::MAX]) {
+        let event = format!("01{id:032X}{}", &EVENT.line[34..]);
+        let text = format!(
+            "04000100000000\n030000000000000FA0\n{event}\n0300000000000013AB\n\
+             0502\n06{id:032X}\n02{id:032X}\n"
+        );
+        let expected =
+            format!("4000 {id} 1\n5012 {id} 2\n2 event {id}\n5035 {id} 4\n5035 {id} 6\n");
+        let name = format!("id {id}");
+        tests.expect(&name, text.as_bytes(), Feed::File, expected.as_bytes());
+    }
 }
 
 fn short_and_long_lines(tests: &mut Tests) {
@@ -566,7 +611,7 @@ fn end_at_border(tests: &mut Tests, sound: &Sound, border: usize, feed: &str) {
 
 fn pieces(tests: &mut Tests) {
     let (text, expected) = mixed_lines();
-    for piece in [1, 2, 3, 7, 69, 4_096] {
+    for piece in [1, 2, 3, 7, 85, 4_096] {
         let pause = Duration::from_micros(30 + piece as u64 / 2);
         let feed = Feed::Pipe { piece, pause };
         let name = format!("pieces of {piece} bytes");

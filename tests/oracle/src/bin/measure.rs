@@ -226,6 +226,7 @@ mod calls {
     use oracle::beside::{compare, Lent, Outcome, Seen};
     use oracle::calls::AMPLE;
     use oracle::event::MOST_EVENTS;
+    use oracle::frame::ID_BYTES;
     use oracle::image::RECORD_BYTES;
     use oracle::proved::Call;
     use oracle::random::Dice;
@@ -271,9 +272,9 @@ mod calls {
                 Call::Clock(u64::from(COMING) + 1, AMPLE),
             ),
             ("set_clock, all to their ends", Call::Clock(100_000, AMPLE)),
-            ("ask, an event holds", Call::Ask(1, 8)),
-            ("ask, its user is out", Call::Ask(0, 8)),
-            ("ask, default", Call::Ask(31, 8)),
+            ("ask, an event holds", Call::Ask(1, ID_BYTES)),
+            ("ask, its user is out", Call::Ask(0, ID_BYTES)),
+            ("ask, default", Call::Ask(31, ID_BYTES)),
             ("list", Call::List(records)),
         ]
     }
@@ -284,7 +285,7 @@ mod calls {
         let started = index.is_multiple_of(2);
         let index = index as u32;
         Event {
-            id: 2 * u64::from(index + 1),
+            id: 2 * u128::from(index + 1),
             program: (index % 7) as u8,
             controls: 1 << (index / 2),
             creation: index,
@@ -298,7 +299,7 @@ mod calls {
     /// Its id lies in the middle of the others.
     fn new_event(held: usize) -> Event {
         Event {
-            id: held as u64 | 1,
+            id: held as u128 | 1,
             ..event(held)
         }
     }

@@ -10,7 +10,7 @@ use crate::generate::generate;
 use crate::{decode, Answer, Calls, Entry, Event, Fast, Frame, Scheduler};
 
 /// Makes each choice at its clock. None is a repeat.
-fn make(calls: &mut dyn Calls, id: u64, choices: &[Made]) {
+fn make(calls: &mut dyn Calls, id: u128, choices: &[Made]) {
     for &(clock, choice) in choices {
         rows_to(calls, clock);
         assert_eq!(calls.choose(id, choice), Ok(choice.code()), "{choices:?}");
@@ -25,7 +25,7 @@ fn receive(calls: &mut dyn Calls, clock: u64, events: &[Event]) {
 }
 
 /// The choice byte of a held event.
-fn byte(calls: &mut dyn Calls, id: u64) -> u8 {
+fn byte(calls: &mut dyn Calls, id: u128) -> u8 {
     listed(calls, id).entry.participation.byte()
 }
 
@@ -367,7 +367,7 @@ fn ends_go_by_id_whatever_their_codes() {
     };
     let ids = [0, 1, 2, 3];
     for shift in ids {
-        let code_of = |id: u64| [3, 8, 9, 10][(id + shift) as usize % 4];
+        let code_of = |id: u128| [3, 8, 9, 10][(id + shift) as usize % 4];
         each(|calls| {
             receive(calls, 4_000, &ids.map(on_own_control));
             let mut choose = |clock, choice, codes: &[u8]| {
@@ -425,7 +425,7 @@ fn image(clock: u64, held: u8, cancelled: u8, choice: u8) -> Vec<u8> {
     receive(&mut fast, 4_000, &[event(1)]);
     rows_to(&mut fast, clock);
     let mut bytes = fast.to_image();
-    bytes[57 + 44..57 + 47].copy_from_slice(&[held, cancelled, choice]);
+    bytes[57 + 52..57 + 55].copy_from_slice(&[held, cancelled, choice]);
     bytes
 }
 
@@ -462,10 +462,10 @@ fn the_choice_byte_of_an_unused_entry_is_zero() {
     for entry in 1..48 {
         let mut bytes = image(5_000, 1, 0, 2);
         assert!(accepts(&bytes));
-        bytes[57 + 47 * entry + 46] = 1;
+        bytes[57 + 55 * entry + 54] = 1;
         assert!(!accepts(&bytes));
     }
-    assert_eq!(image(5_000, 1, 0, 2).len(), 2_313);
+    assert_eq!(image(5_000, 1, 0, 2).len(), 2_697);
 }
 
 /// From the choice byte to the code at the end, a hundred seconds before it and in the last second.

@@ -3,6 +3,7 @@
 use std::collections::{BTreeMap, BTreeSet};
 
 use super::naive::Naive;
+use super::support::ROOM;
 use crate::calls::lines_of;
 use crate::generate::{generate, profile_names};
 use crate::{Calls, Fast, Scheduler};
@@ -66,7 +67,7 @@ fn joined_rows_are_the_schedules_rows() {
             for line in lines_of(&text) {
                 match crate::decode(line) {
                     Some(crate::Frame::Clock(reading)) => {
-                        joined.extend_from_slice(scheduler.set_clock(reading, 1_632).unwrap_or(&[]))
+                        joined.extend_from_slice(scheduler.set_clock(reading, ROOM).unwrap_or(&[]))
                     }
                     _ => scheduler.line(line, &mut Vec::new()),
                 }
@@ -100,11 +101,12 @@ fn try_rooms(history: &Scheduler, fast: &Fast, reading: u64) {
     else {
         return;
     };
-    for room in [17 * rows, (17 * rows).saturating_sub(1), 0, 17 * rows + 1] {
+    let exact = 25 * rows;
+    for room in [exact, exact.saturating_sub(1), 0, exact + 1] {
         let (mut a, mut b) = (history.clone(), fast.clone());
         let answer = a.set_clock(reading, room).map(<[_]>::to_vec);
         assert_eq!(answer, b.set_clock(reading, room).map(<[_]>::to_vec));
-        assert_eq!(answer.is_ok(), room >= 17 * rows);
+        assert_eq!(answer.is_ok(), room >= exact);
         assert_eq!(a.to_image(), b.to_image());
         if answer.is_err() {
             assert_eq!(a.to_image(), history.clone().to_image());

@@ -147,7 +147,7 @@ fn it_stays_after_a_loss() {
     }
 }
 
-/// Over C: the 47 bytes of the image entry, then the time, most significant byte first.
+/// Over C: the 55 bytes of the image entry, then the time, most significant byte first.
 #[test]
 fn a_record_is_the_entry_and_8_bytes() {
     let (mut history, mut fast) = (Scheduler::fresh(), Fast::fresh());
@@ -159,12 +159,12 @@ fn a_record_is_the_entry_and_8_bytes() {
     let record = listed(&mut history, 1);
     assert_eq!(record, listed(&mut fast, 1));
     let bytes = record.bytes();
-    assert_eq!(bytes.len(), 55);
-    assert_eq!(bytes[47..], [0, 0, 0, 0, 0, 0, 0x12, 0x5C]);
-    assert_eq!(bytes[..47], history.to_image()[57..57 + 47]);
-    assert_eq!(bytes[..47], fast.to_image()[57..57 + 47]);
-    assert_eq!((ENTRY_BYTES, RECORD_BYTES), (47, 55));
-    assert_eq!(48 * RECORD_BYTES, 2_640);
+    assert_eq!(bytes.len(), 63);
+    assert_eq!(bytes[55..], [0, 0, 0, 0, 0, 0, 0x12, 0x5C]);
+    assert_eq!(bytes[..55], history.to_image()[57..57 + 55]);
+    assert_eq!(bytes[..55], fast.to_image()[57..57 + 55]);
+    assert_eq!((ENTRY_BYTES, RECORD_BYTES), (55, 63));
+    assert_eq!(48 * RECORD_BYTES, 3_024);
 }
 
 /// The least drawn start over all start draws in range, and not after the effective start.

@@ -7,7 +7,7 @@ use crate::generate::{generate, go_on};
 use crate::image::{self, Image, ENTRY_BYTES, IMAGE_BYTES};
 use crate::random::Dice;
 use crate::spread::Spread;
-use crate::states::random_state;
+use crate::states::{random_ids, random_state};
 use crate::{Calls, Choice, Entry, Event, Fast, Participation, Program, Scheduler};
 
 use super::support::{event, program, rows_to};
@@ -94,8 +94,8 @@ fn head_and_program_rules() {
     assert!(accepts_bytes(|b| b[10] = 191));
     assert!(!accepts_bytes(|b| b[16] = 1));
     assert!(!accepts_bytes(|b| b[20] = 1));
-    assert!(!accepts_bytes(|b| b[2_312] = 1));
-    assert!(!accepts_bytes(|b| b[57 + 45] = 2));
+    assert!(!accepts_bytes(|b| b[2_696] = 1));
+    assert!(!accepts_bytes(|b| b[57 + 53] = 2));
 }
 
 #[test]
@@ -198,9 +198,7 @@ fn random_image(dice: &mut Dice) -> Image {
         let primacy = dice.pick(&[0, 1, 1, 2, 65]);
         *slot = Some(program(primacy, dice.roll() as u32 & 15));
     }
-    let mut ids: Vec<u64> = (0..dice.below(14)).map(|_| dice.below(60)).collect();
-    ids.sort();
-    ids.dedup();
+    let ids = random_ids(dice, 14, 60);
     let mut free = u32::MAX;
     let entries = ids
         .into_iter()
@@ -213,7 +211,7 @@ fn random_image(dice: &mut Dice) -> Image {
     }
 }
 
-fn random_entry(dice: &mut Dice, id: u64, clock: u64, free: &mut u32) -> Option<Entry> {
+fn random_entry(dice: &mut Dice, id: u128, clock: u64, free: &mut u32) -> Option<Entry> {
     let early = clock == 0 && dice.chance(1, 2);
     let (randomize_start, start_draw) = match early {
         true => (-3_600, -3_600),

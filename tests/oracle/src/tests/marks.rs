@@ -43,7 +43,7 @@ fn t7_duration_draw() {
 }
 
 /// Delivers all at clock 4000 and gives the rows up to 6000.
-fn rows(calls: &mut dyn Calls, events: &[Event]) -> Vec<(u64, u64, u8)> {
+fn rows(calls: &mut dyn Calls, events: &[Event]) -> Vec<(u64, u128, u8)> {
     rows_to(calls, 4_000);
     for event in events {
         assert_eq!(calls.deliver(event), Ok(1));

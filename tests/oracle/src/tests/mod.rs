@@ -1,6 +1,7 @@
 mod choices;
 mod compare;
 mod earliest;
+mod ids;
 mod images;
 mod lines;
 mod marks;

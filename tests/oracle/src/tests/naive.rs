@@ -154,7 +154,7 @@ impl Naive {
         found.map(|&(_, program)| program)
     }
 
-    fn position(&self, id: u64) -> Option<usize> {
+    fn position(&self, id: u128) -> Option<usize> {
         self.events.iter().position(|held| held.event.id == id)
     }
 
@@ -278,7 +278,7 @@ impl Calls for Naive {
         Ok(1)
     }
 
-    fn cancel(&mut self, id: u64) -> Result<u8, u8> {
+    fn cancel(&mut self, id: u128) -> Result<u8, u8> {
         let at = self.position(id).ok_or(11)?;
         let held = &mut self.events[at];
         if held.cancelled {
@@ -289,7 +289,7 @@ impl Calls for Naive {
         Ok(6)
     }
 
-    fn choose(&mut self, id: u64, choice: Choice) -> Result<u8, u8> {
+    fn choose(&mut self, id: u128, choice: Choice) -> Result<u8, u8> {
         let at = self.position(id).ok_or(11)?;
         let was = self.events[at].is_out;
         self.events[at].is_out = choice == Choice::Out;
@@ -314,7 +314,7 @@ impl Calls for Naive {
                 next.tick();
             }
         }
-        if room < 17 * next.rows.len() {
+        if room < 25 * next.rows.len() {
             return Err(13);
         }
         *self = next;

@@ -2,7 +2,7 @@
 
 use std::collections::{BTreeMap, BTreeSet};
 
-use super::support::listed;
+use super::support::{listed, ROOM};
 use crate::calls::lines_of;
 use crate::choice::Made;
 use crate::pair::pair;
@@ -68,7 +68,7 @@ fn follow(calls: &mut Scheduler, frame: Frame, premise: &mut Premise, rows: &mut
             }
         }
         Frame::Clock(reading) => {
-            if let Ok(more) = calls.set_clock(reading, 1_632) {
+            if let Ok(more) = calls.set_clock(reading, ROOM) {
                 rows.extend_from_slice(more);
             }
         }

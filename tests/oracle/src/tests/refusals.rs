@@ -204,12 +204,12 @@ fn clock_12_before_13() {
         assert_eq!(calls.set_clock(4_000, 0), Ok(&[][..]));
         assert_eq!(calls.set_clock(9_000_000_001, 0), Err(12));
         assert_eq!(calls.set_clock(u64::MAX, ROOM), Err(12));
-        assert_eq!(calls.set_clock(5_600, 33), Err(13));
+        assert_eq!(calls.set_clock(5_600, 49), Err(13));
         assert_eq!(calls.set_clock(5_600, 0), Err(13));
         assert_eq!(calls.clock(), 4_000);
         assert_eq!(listed(calls, 1).entry.held, 0);
         assert_eq!(calls.set_clock(4_999, 0), Ok(&[][..]));
-        assert_eq!(calls.set_clock(5_600, 34).map(|rows| rows.len()), Ok(2));
+        assert_eq!(calls.set_clock(5_600, 50).map(|rows| rows.len()), Ok(2));
         assert_eq!(calls.set_clock(9_000_000_000, 0), Ok(&[][..]));
         assert_eq!(calls.set_clock(9_000_000_000, 0), Ok(&[][..]));
     });

@@ -5,10 +5,10 @@ use crate::{Answer, Calls, Event, Fast, Program, Record, Row, Scheduler};
 use super::naive::Naive;
 
 /// Room for any clock call.
-pub const ROOM: usize = 1_632;
+pub const ROOM: usize = 2_400;
 
 /// The event of the bench marks: start 5000, duration 600, no randomisation, control 0.
-pub fn event(id: u64) -> Event {
+pub fn event(id: u128) -> Event {
     Event {
         id,
         controls: 1,
@@ -39,24 +39,24 @@ pub fn each(test: impl Fn(&mut dyn Calls)) {
 }
 
 /// The rows as (time, id, code).
-pub fn rows_to(calls: &mut dyn Calls, reading: u64) -> Vec<(u64, u64, u8)> {
+pub fn rows_to(calls: &mut dyn Calls, reading: u64) -> Vec<(u64, u128, u8)> {
     let rows = calls.set_clock(reading, ROOM).expect("an accepted reading");
     rows.iter()
         .map(|&Row { time, id, code }| (time, id, code))
         .collect()
 }
 
-pub fn listed(calls: &mut dyn Calls, id: u64) -> Record {
+pub fn listed(calls: &mut dyn Calls, id: u128) -> Record {
     let records = calls.list(48).expect("an accepted listing");
     let record = records.iter().find(|record| record.entry.event.id == id);
     *record.expect("a held event")
 }
 
-pub fn effective_start(calls: &mut dyn Calls, id: u64) -> u64 {
+pub fn effective_start(calls: &mut dyn Calls, id: u128) -> u64 {
     listed(calls, id).entry.effective_start
 }
 
-pub fn holder(calls: &mut dyn Calls, control: u8) -> Option<u64> {
+pub fn holder(calls: &mut dyn Calls, control: u8) -> Option<u128> {
     match calls.ask(control) {
         Ok(Answer::Event(id)) => Some(id),
         _ => None,

@@ -36,4 +36,5 @@ entry-of-spec =
     (search needs)
     (search needs)
     (search needs)
+    (search needs)
     (λ c. rw (c .of .ensures)))

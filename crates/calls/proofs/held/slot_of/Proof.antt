@@ -1,9 +1,9 @@
 -- Each number fits the width of its field, so cutting it to that width changes nothing, and the mark is 1 only if the event is cancelled.
-use mathlib.Core.Path.{ap, _∙_}
-use native.Mathlib.Nat.{mod-eq-of-lt}
+use mathlib.Core.Path.{ap, ap₂, _∙_}
+use native.Mathlib.Nat.{mod-eq-of-lt, div-add-mod'}
 use native.Mathlib.Omega.{arith}
 use borrow.Author.Needs.{needs}
-use Rattle.rules.specs.Records.{idFrom}
+use Rattle.rules.specs.Records.{halfLimit, halves, idNumber, idFrom}
 use Rattle.rules.proofs.IdLaws.{id-number}
 use Rattle.rules.proofs.Ranges.{entry-fits}
 use Rattle.calls.specs.Slots.{entryOf}
@@ -15,13 +15,15 @@ returns : tie.Need-returns
 unfolding entryOf
 returns c =
     let cancelled = c .before .before .before in
-    let number = cancelled .before .before .before .before .before .before .before .before .before .before .before in
-    let start = number .before in
+    let lower = cancelled .before .before .before .before .before .before .before .before .before .before .before in
+    let upper = lower .before in
+    let start = upper .before in
     let h = start .args .h in
     let f = entry-fits h _ (start .good .0) in
     let e = f .event in
     let held = f .held in
-    let id = ap idFrom (number .number .ensures) ∙ id-number (h .event .id) in
+    let number = ap₂ halves (upper .upper .ensures) (lower .lower .ensures) ∙ div-add-mod' (idNumber (h .event .id)) halfLimit in
+    let id = ap idFrom number ∙ id-number (h .event .id) (e .id) in
     let mark = marked (h .cancelled) _ (cancelled .mark .ensures) in
     let out = marked (h .choice .out) _ (c .before .before .mark2 .ensures) in
     let was-in = marked (h .choice .«was_in») _ (c .before .mark3 .ensures) in
@@ -39,11 +41,12 @@ slot-of-spec =
     (search needs)
     (search needs)
     (search needs)
+    (search needs)
     (λ c. omega (arith, c .struct-known6 .given))
     (λ c. omega (arith, c .struct-known7 .given))
     (λ c. omega (arith, c .struct-known8 .given))
     (λ c. omega (arith, c .struct-known9 .given))
-    (λ c. omega (arith, c .struct-known10 .given))
+    (search needs)
     (search needs)
     (search needs)
     (search needs)

@@ -31,6 +31,16 @@ to-event begins = begins .before .before .before .before
 add-put-3 : tie.Need-add-put-3
 add-put-3 c = let mark = c .before .before .before in omega (arith, to-event (to-begins (to-held mark)))
 
+-- each call leaves the length as it was
+same-length : tie.Need-same-length
+same-length c =
+    let choice = c .before in
+    let mark = choice .before .before .before .before .before in
+    let held = mark .before .before .before .before .before in
+    let begins = held .before .before .before .before .before in
+    let event = begins .before .before .before .before in
+    omega (arith, choice .out5 .given, mark .out4 .given, held .out3 .given, begins .out2 .given, event .out .given)
+
 returns : tie.Need-returns
 unfolding big eventBytes entryBytes
 returns c =
@@ -66,5 +76,5 @@ put-entry-spec =
     add-put-3
     (λ c κs. search needs)
     (λ c κs. search needs)
-    (λ c. search needs)
+    same-length
     returns)

@@ -5,7 +5,6 @@ use native.Mathlib.Omega.{arith}
 use borrow.Author.Needs.{needs}
 use Rattle.rules.specs.Records.{idSize, idNumber}
 use Rattle.rules.proofs.IdLaws.{number-id}
-use Rattle.rules.proofs.Numbers.{Bytes, read-below}
 use Rattle.octets.proofs.Fits.{get-inside, id-inside}
 use Rattle.text.proofs.Printing.{read-one}
 use Rattle.text.proofs.writing.row_text.Statement.{statement}
@@ -18,8 +17,7 @@ returns c =
     let a = read .before .before .before .before .args in
     let l = a .rows .now in
     let time = read .before .get .ensures ∙ get-inside 8 (a .from) l (omega arith) (omega arith) in
-    let bytes : Bytes l = λ i. omega (arith, read .before .before .shared-slice-known .given i) in
-    let id = ap idNumber (read .get-id .ensures ∙ id-inside (a .from + 8) l (omega arith)) ∙ number-id _ (read-below l bytes idSize (a .from + 8)) in
+    let id = ap idNumber (read .get-id .ensures ∙ id-inside (a .from + 8) l (omega arith)) ∙ number-id _ in
     rw (← time, ← id, read-one (a .from + (8 + idSize)) l) (text .three .ensures)
 
 pub row-text-spec : {M : Type 1} → statement M

@@ -2,7 +2,7 @@
 use mathlib.Core.List.{append-assoc}
 use native.Mathlib.Omega.{arith}
 use borrow.Author.Needs.{needs}
-use Rattle.text.proofs.Printing.{put-then, number-within}
+use Rattle.text.proofs.Printing.{put-then, number-within, id-within}
 use Rattle.text.proofs.writing.three.Statement.{statement}
 use Rattle.text.proofs.writing.three.Tie as tie
 
@@ -16,7 +16,7 @@ id-text-requires c κs = omega (arith, number-within _ _ (c .before .before .bef
 number-requires-2 : tie.Need-number-requires-2
 number-requires-2 c κs =
     let id = c .before .before .before in
-    omega (arith, number-within _ _ (time-of id .number .ensures), number-within _ _ (id .id-text .ensures))
+    omega (arith, number-within _ _ (time-of id .number .ensures), id-within _ _ (id .id-text .ensures))
 
 returns : tie.Need-returns
 returns c =
