@@ -1,6 +1,6 @@
 -- Held events in slots, and the schedule that they are with the rest of it.
 use mathlib.Core.Path.{_≡_}
-use Prim.Native.Nat.{ℕ, _+_, _%_, _≤_}
+use Prim.Native.Nat.{ℕ, _+_, _/_, _%_, _≤_}
 use mathlib.Core.Bool.{true}
 use mathlib.Core.List.{List, map}
 use lib.Dec.{eqb}
@@ -12,8 +12,8 @@ use Rattle.rules.specs.Bytes.{rowsSize}
 use Rattle.rules.specs.Sound.{sound}
 use Rattle.calls.specs.declared.held.Head.{Head}
 
--- the places of the numbers in a slot: the halves of an event's id and its other fields in their order, then effective start, held mask, the mark of a cancelled one,
--- and the three of a choice
+-- the places of the numbers in a slot: the halves of an event's id and its other fields in their order, the two randomisations in one number, then effective start, held
+-- mask, the mark of a cancelled one, and the three of a choice
 abbrev pub highPlace : ℕ
 highPlace = 0
 
@@ -35,14 +35,11 @@ startPlace = createdPlace + 1
 abbrev pub durationPlace : ℕ
 durationPlace = startPlace + 1
 
-abbrev pub randomizeStartPlace : ℕ
-randomizeStartPlace = durationPlace + 1
-
-abbrev pub randomizeDurationPlace : ℕ
-randomizeDurationPlace = randomizeStartPlace + 1
+abbrev pub randomizationsPlace : ℕ
+randomizationsPlace = durationPlace + 1
 
 abbrev pub startDrawPlace : ℕ
-startDrawPlace = randomizeDurationPlace + 1
+startDrawPlace = randomizationsPlace + 1
 
 abbrev pub durationDrawPlace : ℕ
 durationDrawPlace = startDrawPlace + 1
@@ -83,7 +80,7 @@ abbrev pub entryFrom : (ℕ → ℕ) → Entry
 entryFrom at =
     record {
       event = eventOf (halves (at highPlace) (at lowPlace)) (at programPlace % values8) (at controlsPlace % values32) (at createdPlace % values32) (at startPlace % values32) (at durationPlace % values32)
-          (at randomizeStartPlace % values16) (at randomizeDurationPlace % values16) (at startDrawPlace % values16) (at durationDrawPlace % values16);
+          (at randomizationsPlace / values16 % values16) (at randomizationsPlace % values16) (at startDrawPlace % values16) (at durationDrawPlace % values16);
       begins = at beginsPlace;
       held = at heldPlace % values32;
       cancelled = eqb (at cancelledPlace) 1;

@@ -16,8 +16,8 @@ use rules::Id;
 use rules::Program;
 use rules::Schedule;
 
-// The places of the numbers in a slot: the halves of the id, the other fields in document 01's order, then effective start, held mask, 1 if the event is
-// cancelled, and the choice: 1 if the user is out, was in, was out.
+// The places of the numbers in a slot: the halves of the id, the other fields in document 01's order, the two randomisations in one number, then effective start,
+// held mask, 1 if the event is cancelled, and the choice: 1 if the user is out, was in, was out. Sixteen numbers are 128 bytes, which are still copied without a call.
 const ID_HIGH: usize = 0;
 
 const ID_LOW: usize = ID_HIGH + 1;
@@ -32,11 +32,9 @@ const START: usize = CREATED + 1;
 
 const DURATION: usize = START + 1;
 
-const RANDOMIZE_START: usize = DURATION + 1;
+const RANDOMIZATIONS: usize = DURATION + 1;
 
-const RANDOMIZE_DURATION: usize = RANDOMIZE_START + 1;
-
-const START_DRAW: usize = RANDOMIZE_DURATION + 1;
+const START_DRAW: usize = RANDOMIZATIONS + 1;
 
 const DURATION_DRAW: usize = START_DRAW + 1;
 
@@ -103,8 +101,7 @@ pub(crate) fn slot_of(h: Entry) -> Slot
         h.event.created as u64,
         h.event.start as u64,
         h.event.duration as u64,
-        h.event.randomize_start as u64,
-        h.event.randomize_duration as u64,
+        h.event.randomize_start as u64 * VALUES16 + h.event.randomize_duration as u64,
         h.event.start_draw as u64,
         h.event.duration_draw as u64,
         h.begins,
@@ -126,8 +123,8 @@ pub(crate) fn entry_of(slot: Slot) -> Entry
         created: (slot[CREATED] % VALUES32) as u32,
         start: (slot[START] % VALUES32) as u32,
         duration: (slot[DURATION] % VALUES32) as u32,
-        randomize_start: (slot[RANDOMIZE_START] % VALUES16) as u16,
-        randomize_duration: (slot[RANDOMIZE_DURATION] % VALUES16) as u16,
+        randomize_start: (slot[RANDOMIZATIONS] / VALUES16 % VALUES16) as u16,
+        randomize_duration: (slot[RANDOMIZATIONS] % VALUES16) as u16,
         start_draw: (slot[START_DRAW] % VALUES16) as u16,
         duration_draw: (slot[DURATION_DRAW] % VALUES16) as u16,
     };

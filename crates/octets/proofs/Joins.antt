@@ -1,11 +1,12 @@
--- A number read from bytes, and written to bytes, in two parts: by induction over the width.
+-- A number read from bytes in two parts: by induction over the width; and an id, read and written by its halves.
 use mathlib.Core.Path.{_≡_, sym, ap, _∙_}
-use Prim.Native.Nat.{ℕ, zero, suc, _+_, _*_, _/_, _%_, _^_, _<_}
-use mathlib.Core.List.{List, [], _∷_, _++_, append-assoc, append-nil}
+use Prim.Native.Nat.{ℕ, zero, suc, _+_, _*_, _/_, _%_, _^_}
+use mathlib.Core.List.{List, _++_}
 use native.Mathlib.Nat.{add-zero, add-suc, pow-suc, mul-assoc, mod-lt, div-add-mod'}
 use native.Mathlib.Omega.{arith}
 use Rattle.rules.specs.Records.{idFrom, halfSize, halfLimit, idSize, halves}
 use Rattle.rules.specs.Bytes.{big, read, idAt}
+use Rattle.rules.proofs.Numbers.{big-join}
 
 -- a number is the number of its first bytes, moved up, and that of the others
 pub read-join : (m n at : ℕ) (l : List ℕ) → read (m + n) at l ≡ read m at l * 256 ^ n + read n (at + m) l
@@ -14,15 +15,6 @@ read-join m zero at l = rw (add-zero m) (omega arith)
 read-join m (suc n) at l =
     let e : at + (m + n) ≡ at + m + n = omega arith in
     rw (add-suc, read-join m n at l, e, pow-suc, ← mul-assoc (read m at l) (256 ^ n) 256) (omega arith)
-
--- the bytes of two parts are those of the first and then those of the other
-pub big-join : (m n x y : ℕ) → y < 256 ^ n → big (m + n) (x * 256 ^ n + y) ≡ big m x ++ big n y
-unfolding big
-big-join m zero x y h = let e : x * 1 + y ≡ x = omega arith in rw (add-zero m, e, append-nil)
-big-join m (suc n) x y h =
-    let front : (x * 256 ^ suc n + y) / 256 ≡ x * 256 ^ n + y / 256 = rw (pow-suc 256 n, ← mul-assoc x (256 ^ n) 256) (omega arith) in
-    let last : (x * 256 ^ suc n + y) % 256 ≡ y % 256 = rw (pow-suc 256 n, ← mul-assoc x (256 ^ n) 256) (omega arith) in
-    rw (add-suc, front, last, big-join m n x (y / 256) (omega (arith, pow-suc 256 n))) (append-assoc (big m x) (big n (y / 256)) (y % 256 ∷ []))
 
 -- an id of its halves, from bytes and as bytes
 pub id-read : (at : ℕ) (l : List ℕ) → idFrom (halves (read halfSize at l) (read halfSize (at + halfSize) l)) ≡ idAt at l

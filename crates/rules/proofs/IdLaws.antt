@@ -1,6 +1,7 @@
 -- The laws of ids: an id whose halves fit is its number, and a number is that of its id. Two halves are one number, and are compared as one.
-use mathlib.Core.Path.{_≡_, refl, sym, ap, ap₂, _∙_}
-use Prim.Native.Nat.{ℕ, _+_, _*_, _/_, _%_, _<_}
+use mathlib.Core.Path.{_≡_, refl, sym, ap, _∙_}
+use mathlib.Core.Logic.{_↔_, _⊎_, inl, inr}
+use Prim.Native.Nat.{ℕ, _+_, _*_, _/_, _%_, _<_, _≤_}
 use mathlib.Core.Bool.{Bool, true, false, _&&_, _||_}
 use native.Mathlib.Omega.{arith}
 use native.Mathlib.Nat.{suc-mul, mul-le-mul-right, div-lt-iff-lt-mul, mod-lt}
@@ -62,3 +63,18 @@ module _ (high low high' low' : ℕ) (f : low < halfLimit) (g : low' < halfLimit
       by false true true p q r = sym (lt-ltb (halves high low) (halves high' low') (omega (arith, eqb-true high high' q, ltb-true low low' r)))
       by false true false p q r = sym (le-ltb (halves high low) (halves high' low') (omega (arith, eqb-true high high' q, ltb-false low low' r)))
       by false false c p q r = sym (le-ltb (halves high low) (halves high' low') (omega (arith, ltb-false high high' p, eqb-false high high' q)))
+
+-- the upper halves decide, and where they are equal the lower ones
+pub below-number : (a b : Id) → IdFits a → IdFits b → idNumber a < idNumber b ↔ ((a .high < b .high) ⊎ ((a .high ≡ b .high) × (a .low < b .low)))
+unfolding idNumber
+below-number a b f g = (λ h. by (ltb (a .high) (b .high)) refl h, back)
+  where
+    by : (t : Bool) → ltb (a .high) (b .high) ≡ t → halves (a .high) (a .low) < halves (b .high) (b .low) → (a .high < b .high) ⊎ ((a .high ≡ b .high) × (a .low < b .low))
+    by true p h = inl (ltb-true (a .high) (b .high) p)
+    by false p h =
+        let u : b .high ≤ a .high = ltb-false (a .high) (b .high) p in
+        inr (omega (arith, u, h, f .1, g .1), omega (arith, u, h, f .1, g .1))
+
+    back : (a .high < b .high) ⊎ ((a .high ≡ b .high) × (a .low < b .low)) → halves (a .high) (a .low) < halves (b .high) (b .low)
+    back (inl l) = omega (arith, l, f .1)
+    back (inr e) = omega (arith, e .0, e .1)

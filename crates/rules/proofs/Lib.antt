@@ -34,6 +34,7 @@ pub mod RowBytes  -- the bytes of rows are read again
 pub mod Ranges  -- what is owned fits its width
 pub mod Lengths  -- an array that is owned has its length
 -- Clauses.
+pub mod IdClause  -- an id is an unsigned number of 128 bits
 pub mod Earliest  -- the earliest start is the least of the drawn starts, and not after the effective start
 pub mod CodeLaws  -- when an entry gives which code
 pub mod RowsGiven  -- the rows of the moments passed are what the events give in them

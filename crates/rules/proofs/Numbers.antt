@@ -3,9 +3,9 @@ use mathlib.Core.Path.{_≡_, refl, sym, ap, ap₂, _∙_}
 use mathlib.Core.Logic.{inl, inr}
 use mathlib.Core.Bool.{Bool, _&&_, true, and-eq-true-iff}
 use Prim.Native.Nat.{ℕ, zero, suc, _+_, _*_, _/_, _%_, _^_, _<_, _≤_}
-use mathlib.Core.List.{List, [], _∷_, _++_, append-assoc, map}
+use mathlib.Core.List.{List, [], _∷_, _++_, append-assoc, append-nil, map}
 use native.Mathlib.Omega.{arith}
-use native.Mathlib.Nat.{pow-suc, pow-succ', mul-suc}
+use native.Mathlib.Nat.{add-zero, add-suc, mul-assoc, pow-suc, pow-succ', mul-suc}
 use lib.ListN.{length, take, drop, getD, length-append, length-drop, List·getD-append, take-append-drop}
 use lib.Seq.{take-suc, getD-drop, getD-at, drop-drop, drop-at}
 use Rattle.rules.specs.Lists.{All}
@@ -15,6 +15,15 @@ pub big-length : (n x : ℕ) → length (big n x) ≡ n
 unfolding big
 big-length zero x = refl
 big-length (suc n) x = simp length-append (omega (arith, big-length n (x / 256)))
+
+-- the bytes of two parts are those of the first and then those of the other
+pub big-join : (m n x y : ℕ) → y < 256 ^ n → big (m + n) (x * 256 ^ n + y) ≡ big m x ++ big n y
+unfolding big
+big-join m zero x y h = let e : x * 1 + y ≡ x = omega arith in rw (add-zero m, e, append-nil)
+big-join m (suc n) x y h =
+    let front : (x * 256 ^ suc n + y) / 256 ≡ x * 256 ^ n + y / 256 = rw (pow-suc 256 n, ← mul-assoc x (256 ^ n) 256) (omega arith) in
+    let last : (x * 256 ^ suc n + y) % 256 ≡ y % 256 = rw (pow-suc 256 n, ← mul-assoc x (256 ^ n) 256) (omega arith) in
+    rw (add-suc, front, last, big-join m n x (y / 256) (omega (arith, pow-suc 256 n))) (append-assoc (big m x) (big n (y / 256)) (y % 256 ∷ []))
 
 -- reading within the first of two lists
 pub read-first : (n at : ℕ) (p q : List ℕ) → at + n ≤ length p → read n at (p ++ q) ≡ read n at p

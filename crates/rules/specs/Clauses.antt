@@ -7,7 +7,8 @@ use mathlib.Core.Bool.{Bool, true, false, cond, not, _||_}
 use mathlib.Core.List.{List, [], _∷_, _++_, map}
 use mathlib.Core.Option.{none, some}
 use lib.Dec.{eqb}
-use lib.ListN.{length}
+use lib.ListN.{length, replicate}
+use Rattle.rules.specs.declared.Id.{Id}
 use Rattle.rules.specs.declared.Event.{Event}
 use Rattle.rules.specs.declared.Answer.{Answer}
 use Rattle.rules.specs.declared.Answer.the-variants.{Refused, Code, Count, Holder, Default, Nobody}
@@ -16,20 +17,31 @@ use Rattle.rules.specs.declared.Program.{Program}
 use Rattle.rules.specs.declared.Record.{Record}
 use Rattle.rules.specs.declared.Schedule.{Schedule}
 use Rattle.rules.specs.Lists.{In, All, Pairwise}
-use Rattle.rules.specs.Records.{State, idOf, IdFits, has, differ, lastClock, mostEvents, mostRows, programAt, fresh, view, pad}
+use Rattle.rules.specs.Records.{State, halfSize, halfLimit, idSize, idLimit, idNumber, idFrom, idOf, IdFits, has, differ, lastClock, mostEvents, mostRows, programAt, fresh, view, pad}
 use Rattle.rules.specs.Period.{lift, drawnStart, effectiveEnd, earliestStart, periodOf}
 use Rattle.rules.specs.Holding.{Rank, rankOf, better, heldAt, Holding, endOf, remarked}
 use Rattle.rules.specs.Rows.{Row, codeAt, ending, Sooner}
 use Rattle.rules.specs.Moments.{second, passed}
 use Rattle.rules.specs.Sound.{drawn, malformed, sound}
 use Rattle.rules.specs.Refusals.{late}
-use Rattle.rules.specs.Bytes.{rowSize}
+use Rattle.rules.specs.Bytes.{big, rowSize}
 use Rattle.rules.specs.Calls.{Call, deliver, cancel, choose, setClock, list, entryId, code, count, numberOf, valueOf, entry, Ranked, bestDefault, recordOf, lentBytes, lentList, call}
 use Rattle.rules.specs.Image.{imageSize, image, loaded, imaged}
 use Rattle.rules.specs.Face.{Operation, asCall, idTooLong, shown, negative, lentAfter, face, faceFresh}
 use Rattle.rules.specs.Printed.{room}
 use Rattle.rules.specs.History.{Chosen}
 use Rattle.rules.specs.Schedules.{Timed, goneBy, outBy, holding, seen, rowsTo}
+
+-- Document 02, #104, the mRID as an unsigned number of 128 bits
+pub record IdClauses : Type 0 where
+  -- every number below 2 ^ 128 is that of an id
+  pub made : (n : ℕ) → n < idLimit → IdFits (idFrom n) × (idNumber (idFrom n) ≡ n)
+  -- every id has such a number, and no other has it
+  pub told : (i : Id) → IdFits i → (idNumber i < idLimit) × (idFrom (idNumber i) ≡ i)
+  -- of two ids the upper halves decide which is below the other, and where these are equal the lower halves
+  pub below : (a b : Id) → IdFits a → IdFits b → idNumber a < idNumber b ↔ ((a .high < b .high) ⊎ ((a .high ≡ b .high) × (a .low < b .low)))
+  -- the bytes of an id below 2 ^ 64 are the eight that such a number has, with eight zero bytes before them
+  pub widened : (n : ℕ) → n < halfLimit → big idSize n ≡ replicate halfSize 0 ++ big halfSize n
 
 -- Effective period, draw: the event with another start draw
 abbrev pub withDraw : Event → ℕ → Event
@@ -337,6 +349,7 @@ pub record ImageKept (s : Schedule) : Type 0 where
   pub back : loaded (image s) ≡ s
 
 pub record Clauses : Type 0 where
+  pub ids : IdClauses
   pub earliest : EarliestClauses
   pub rank : RankClauses
   pub holding : (ps : List Program) (ts : List Timed) → HoldingClauses ps ts

@@ -1,4 +1,5 @@
 -- The promise is the theorem: the clauses, each by its law.
+use Rattle.rules.proofs.IdClause.{id-clauses}
 use Rattle.rules.proofs.Earliest.{earliest-clauses}
 use Rattle.rules.proofs.Ranks.{better-self, better-trans, better-one}
 use Rattle.rules.proofs.Interval.{holding-clauses}
@@ -21,6 +22,7 @@ use Rattle.rules.proofs.clauses.Tie as tie
 
 returns : tie.Need-returns
 returns c = record {
+  ids = id-clauses;
   earliest = earliest-clauses;
   rank = record { strict = better-self; transitive = better-trans; total = better-one };
   holding = holding-clauses;
