@@ -45,7 +45,7 @@ exports() {
 }
 
 needs_little() {
-    nm -u "$archive" | awk '$1 == "U" && $2 !~ /^(memcpy|memmove|memset)$/ { print; bad = 1 } END { exit bad }'
+    nm -u "$archive" | awk '$1 == "U" && $2 != "memcpy" && $2 != "memset" { print; bad = 1 } END { exit bad }'
 }
 
 no_data() {
@@ -53,7 +53,7 @@ no_data() {
 }
 
 step "the archive has the functions of the header and no other" exports
-step "it needs nothing but memcpy, memmove and memset" needs_little
+step "it needs nothing but memcpy and memset" needs_little
 step "it has no writable data" no_data
 
 # --- the header

@@ -59,10 +59,11 @@ pub enum Primacy {
     Reserved,
 }
 
-// Records. An event.
+// Records. An event. In memory its program comes before its id: an array of unused entries is then filled by a loop, which the compiler else writes out 48 times
+// over wherever it stands.
 pub struct Event {
-    pub id: Id,
     pub program: u8,
+    pub id: Id,
     pub controls: u32,
     pub created: u32,
     pub start: u32,
