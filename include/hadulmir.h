@@ -73,9 +73,9 @@ extern "C" {
 typedef char hadulmir_fits_the_target[CHAR_BIT == 8 && sizeof(int) == 4 && (sizeof(void *) == 4 || sizeof(void *) == 8) ? 1 : -1];
 
 /** This version as a number: 10,000 for the first part of its name, 100 for the second, 1 for the third. */
-#define HADULMIR_VERSION 40000
+#define HADULMIR_VERSION 40100
 /** This version as text. */
-#define HADULMIR_VERSION_TEXT "4.0.0"
+#define HADULMIR_VERSION_TEXT "4.1.0"
 
 /**
  * The layout of the image. Versions with the same number here take up each other's images: a host stores it with the image. An image of an
@@ -122,6 +122,12 @@ typedef char hadulmir_fits_the_target[CHAR_BIT == 8 && sizeof(int) == 4 && (size
 /** Bytes of an id as text: 32 hexadecimal digits and a zero byte. */
 #define HADULMIR_ID_TEXT_SIZE 33
 
+/** Bytes of a buffer that is long enough for every line that hadulmir_lengthen writes. */
+#define HADULMIR_LONG_LINE_SIZE 84
+
+/** Bytes of a buffer that is long enough for every line that hadulmir_shorten writes. */
+#define HADULMIR_SHORT_LINE_SIZE 68
+
 /** Programs have the numbers 0 to 7. */
 #define HADULMIR_PROGRAMS_AT_MOST 8
 
@@ -135,10 +141,12 @@ typedef char hadulmir_fits_the_target[CHAR_BIT == 8 && sizeof(int) == 4 && (size
 #define HADULMIR_STACK_SIZE 32768
 
 /**
- * The refusals, as they are returned, in the order in which a call checks them. A call that several apply to returns the first. Number 1 is
- * that of a line of text which is no frame; no function of this header reads lines, so none returns it.
+ * The refusals, as they are returned, in the order in which a call checks them, but -15 comes before -13. A call that several apply to
+ * returns the first. -1 and -15 are returned by hadulmir_lengthen and hadulmir_shorten alone.
  */
 enum hadulmir_refusal {
+    /** The line is no frame of the kind that is to be turned (see RECORDED LINES below). */
+    HADULMIR_NO_FRAME = -1,
     /** The image is not 2,697 bytes long, or breaks a rule of images (see THE IMAGE below). */
     HADULMIR_BAD_IMAGE = -2,
     /** The program number is above 7. */
@@ -170,7 +178,9 @@ enum hadulmir_refusal {
     /** The lent buffer is shorter than what the call has to write. */
     HADULMIR_TOO_SHORT = -13,
     /** The control is above 31. */
-    HADULMIR_CONTROL_TOO_LARGE = -14
+    HADULMIR_CONTROL_TOO_LARGE = -14,
+    /** The id of a long line has an upper half that is not 0, so a short line has no room for it. */
+    HADULMIR_ID_TOO_LARGE = -15
 };
 
 /**
@@ -243,7 +253,7 @@ enum hadulmir_asked {
  * Earliest start is the lesser of start and start + randomizeStart, which IEEE 2030.5 calls Earliest Effective Start Time. No draw and no
  * late receipt moves it, so it can lie before the clock. It is never after the effective start.
  *
- * An image is accepted if it keeps every one of these rules. Else each function but hadulmir_fresh returns -2.
+ * An image is accepted if it keeps every one of these rules. Else each function that takes one, but hadulmir_fresh, returns -2.
  *   - The clock is at most 9,000,000,000, the count at most 48. Added and cancelled are 0 or 1.
  *   - A program that is not added has primacy and defaults 0. An added one has a primacy that is not reserved.
  *   - The entries from the count on are zero. The ids of the others ascend, no two are equal.
@@ -270,6 +280,29 @@ enum hadulmir_asked {
  *     9    if for some of them, and the choice that counts for the end is in.
  * A choice that is made at the last clock before the end counts for the end and for none of these seconds: it can turn 8 into 9 or 9 into 8,
  * and leaves 3 and 10.
+ */
+
+/*
+ * RECORDED LINES
+ *
+ * A line is a frame as text, two hexadecimal digits for each byte, in upper case. The first byte is its kind; where there is an id, it comes
+ * next. A line feed ends a line in a list; no call is given it, and none writes it. A short line has an id of 64 bits, as lists had it before
+ * version 4.0.0. A long line has one of 128 bits. Lines without an id are short and long at once. The lengths are:
+ *
+ *        digits in front                  short   long
+ *        01   event                          68     84
+ *        02   cancellation                   18     34
+ *        06   opt-out                        18     34
+ *        07   opt-in                         18     34
+ *        03   clock reading, no id           18     18
+ *        04   program, no id                 14     14
+ *        05   question, no id                 4      4
+ *
+ * What begins otherwise, is of another length or has a byte in it that is no such digit is no frame. Nothing else counts: an event that a
+ * delivery would refuse is turned like any other.
+ *
+ * The id of a lengthened line is the number that it was, below 2^64. That is a handle of the host which recorded it, and no mRID: the low 32
+ * bits of an mRID are its provider's number (PEN), those of a handle would be read as one. It is never posted as the subject of a response.
  */
 
 /**
@@ -355,6 +388,24 @@ int32_t hadulmir_ask(const uint8_t *image, uint64_t image_len, uint8_t control, 
  */
 int32_t hadulmir_list(const uint8_t *image, uint64_t image_len, uint8_t *records, uint64_t records_len);
 
+/**
+ * Turns a short line into the long one: sixteen digits '0' come between the kind and the id. A line without an id passes unchanged. There is
+ * no image in it, and `line` stays as it was.
+ * Answers the length of the turned line, 4 to 84, and writes it over the front of `out`; the bytes behind stay as they were.
+ * Refuses with -1 if `line` is no short line, so also if it is a long one with an id; and with -13 if out_len is below the length of the
+ * turned line. HADULMIR_LONG_LINE_SIZE bytes always suffice.
+ */
+int32_t hadulmir_lengthen(const uint8_t *line, uint64_t line_len, uint8_t *out, uint64_t out_len);
+
+/**
+ * Turns a long line into the short one: the sixteen digits of the upper half of its id are taken out. A line without an id passes unchanged.
+ * What hadulmir_lengthen wrote becomes the line that it was. There is no image in it, and `line` stays as it was.
+ * Answers the length of the turned line, 4 to 68, and writes it over the front of `out`; the bytes behind stay as they were.
+ * Refuses with -1 if `line` is no long line, so also if it is a short one with an id; with -15 if the upper half of its id is not 0; and with
+ * -13 if out_len is below the length of the turned line. HADULMIR_SHORT_LINE_SIZE bytes always suffice.
+ */
+int32_t hadulmir_shorten(const uint8_t *line, uint64_t line_len, uint8_t *out, uint64_t out_len);
+
 /* HELPERS. They are compiled into the host; the archive is called by hadulmir_deliver_event alone. */
 
 /** Whether a returned number is a refusal. */
@@ -367,6 +418,8 @@ static inline int hadulmir_is_refusal(int32_t returned)
 static inline const char *hadulmir_refusal_text(int32_t refusal)
 {
     switch (refusal) {
+    case HADULMIR_NO_FRAME:
+        return "no frame of the kind that is to be turned";
     case HADULMIR_BAD_IMAGE:
         return "no image, or one that breaks a rule";
     case HADULMIR_PROGRAM_TOO_LARGE:
@@ -393,15 +446,17 @@ static inline const char *hadulmir_refusal_text(int32_t refusal)
         return "lent buffer too short";
     case HADULMIR_CONTROL_TOO_LARGE:
         return "control above 31";
+    case HADULMIR_ID_TOO_LARGE:
+        return "id with an upper half that is not 0";
     default:
         return "no refusal of this part";
     }
 }
 
 /**
- * The response code that a host posts after a refusal: 253 for -7, 254 for -9, else 0 for none. It takes refusals alone: an answer of
- * hadulmir_deliver, hadulmir_cancel, hadulmir_opt_out or hadulmir_opt_in is the code itself, or 0 for none; an answer of another function is
- * no code.
+ * The response code that a host posts after a refusal: 253 for -7, 254 for -9, else 0 for none, as after -1 and -15, which answer no server.
+ * It takes refusals alone: an answer of hadulmir_deliver, hadulmir_cancel, hadulmir_opt_out or hadulmir_opt_in is the code itself, or 0 for
+ * none; an answer of another function is no code.
  */
 static inline uint8_t hadulmir_response_for(int32_t refusal)
 {

@@ -73,8 +73,8 @@ function known(f) {
 
 END {
     if (stopped) exit 1
-    if (layouts != 1 || triples != 1 || probes != 1 || processors != 1 || exports != 9) {
-        printf "targets/module.awk: the module has %d data layouts, %d triples, %d stack probes and %d processors of x86-64, where one each is expected, and %d exported functions of 9\n", \
+    if (layouts != 1 || triples != 1 || probes != 1 || processors != 1 || exports != 11) {
+        printf "targets/module.awk: the module has %d data layouts, %d triples, %d stack probes and %d processors of x86-64, where one each is expected, and %d exported functions of 11\n", \
             layouts, triples, probes, processors, exports > "/dev/stderr"
         exit 1
     }

@@ -47,8 +47,9 @@ step "a stage does not go into the pkg-config file" staged
 
 # by_cmake VERSION: the example by CMake, with a version asked for
 by_cmake() { rm -rf cmake && cmake -S . -B cmake -DCMAKE_PREFIX_PATH="$prefix" -DWANTED="$1" && cmake --build cmake; }
-step "host.c builds by CMake" by_cmake 4.0
+step "host.c builds by CMake" by_cmake 4.1
 step "and writes examples/host.out" says cmake/host
+step "a host that asks for 4.0 gets it too" by_cmake 4.0
 unfit() { ! by_cmake "$1" && grep -q 'compatible with requested version' "$out/log"; }
 step "CMake refuses a version that is not there" unfit 4.99
 for other in 3.0 5.0; do

@@ -1,8 +1,9 @@
 /*
  * Tests of the C face. Every call goes through `call`, which lends buffers of the exact length between guard bytes and looks at all that a
  * call must not touch: the guard bytes always, the bytes behind what was written, the image of a question or a listing, and everything
- * after a refusal. It compares every byte of a listing with the image, and every byte of the image with what a choice makes of it. With
- * -DGUARD=0 a buffer is a heap block of its exact length, so that valgrind sees a byte read or written outside it.
+ * after a refusal. It compares every byte of a listing with the image, and every byte of the image with what a choice makes of it. The two
+ * calls on recorded lines go through `turn`, which looks at the same. With -DGUARD=0 a buffer is a heap block of its exact length, so that
+ * valgrind sees a byte read or written outside it.
  */
 #include <inttypes.h>
 #include <stdio.h>
@@ -2440,6 +2441,271 @@ static void test_choices_again(void)
     ROWS(image, 7000, rows);
 }
 
+/* RECORDED LINES */
+
+typedef int32_t turning(const uint8_t *line, uint64_t line_len, uint8_t *out, uint64_t out_len);
+
+/* Makes a call on a line of `len` bytes, which it leaves as it is. */
+static int32_t turn(turning *way, const char *line, size_t len, size_t room)
+{
+    struct lent given = lend(len), lent = lend(room);
+    int32_t returned;
+
+    memcpy(given.at, line, len);
+    returned = way(given.at, len, lent.at, room);
+    CHECK(memcmp(given.at, line, len) == 0 && guards_whole(&given) && guards_whole(&lent) && (returned < 0 || (size_t)returned <= room)
+          && pattern_from(&lent, returned < 0 ? 0 : (size_t)returned));
+    memcpy(lent_bytes, lent.at, room < LENT_AT_MOST ? room : LENT_AT_MOST);
+    free(given.block);
+    free(lent.block);
+    return returned;
+}
+
+static void returns_at(turning *way, const char *text, size_t len, size_t room, int32_t wanted, int line)
+{
+    int32_t returned = turn(way, text, len, room);
+
+    if (returned != wanted && failed < 40)
+        printf("face.c:%d: %.*s returned %" PRId32 ", expected %" PRId32 "\n", line, (int)(len < 90 ? len : 90), text, returned, wanted);
+    check(returned == wanted, "the returned number of a line", line);
+}
+
+/* The line becomes `wanted` in every buffer that is long enough for that, and is refused with 13 in every shorter one. */
+static void becomes_at(turning *way, const char *text, const char *wanted, int line)
+{
+    size_t need = strlen(wanted), room;
+
+    for (room = 0; room <= need + 2; room++) {
+        returns_at(way, text, strlen(text), room, room < need ? HADULMIR_TOO_SHORT : (int32_t)need, line);
+        check(room < need || memcmp(lent_bytes, wanted, need) == 0, "the turned line", line);
+    }
+}
+
+/* The line is refused with this number in every buffer. */
+static void refuses_at(turning *way, const char *text, int32_t wanted, int line)
+{
+    size_t room;
+
+    for (room = 0; room <= HADULMIR_LONG_LINE_SIZE + 2; room++)
+        returns_at(way, text, strlen(text), room, wanted, line);
+}
+
+#define BECOMES(way, text, wanted) becomes_at((way), (text), (wanted), __LINE__)
+#define REFUSES(way, text, wanted) refuses_at((way), (text), (wanted), __LINE__)
+
+#define ZEROS "0000000000000000"
+#define FIELDS "00" "00000001" "00000064" "00001388" "00000258" "0000000000000000"
+#define ALL_ZERO ZEROS ZEROS ZEROS "00"
+#define ALL_ONE "FFFFFFFFFFFFFFFFFFFFFFFFFFFFFFFFFFFFFFFFFFFFFFFFFF"
+
+/* Lines of every kind, among them such as their calls would refuse with 3, 6, 7, 12 and 14. */
+static const struct {
+    const char *shorter, *longer;
+} lines[] = {{"01" "FEDCBA9876543210" FIELDS, "01" ZEROS "FEDCBA9876543210" FIELDS},
+             {"01" ZEROS ALL_ZERO, "01" ZEROS ZEROS ALL_ZERO},
+             {"01" "FFFFFFFFFFFFFFFF" ALL_ONE, "01" ZEROS "FFFFFFFFFFFFFFFF" ALL_ONE},
+             {"02" "0123456789ABCDEF", "02" ZEROS "0123456789ABCDEF"},
+             {"06" "8000000000000001", "06" ZEROS "8000000000000001"},
+             {"07" "0000000100000000", "07" ZEROS "0000000100000000"},
+             {"03" "0000000000001388", "03" "0000000000001388"},
+             {"03" "FFFFFFFFFFFFFFFF", "03" "FFFFFFFFFFFFFFFF"},
+             {"04" "00010000000F", "04" "00010000000F"},
+             {"04" "FFFFFFFFFFFF", "04" "FFFFFFFFFFFF"},
+             {"05" "1F", "05" "1F"},
+             {"05" "FF", "05" "FF"}};
+
+#define LINES (sizeof lines / sizeof lines[0])
+
+static void test_lines(void)
+{
+    struct hadulmir_id id;
+    size_t i;
+
+    for (i = 0; i < LINES; i++) {
+        BECOMES(hadulmir_lengthen, lines[i].shorter, lines[i].longer);
+        BECOMES(hadulmir_shorten, lines[i].longer, lines[i].shorter);
+        if (strlen(lines[i].shorter) != strlen(lines[i].longer)) {
+            REFUSES(hadulmir_lengthen, lines[i].longer, HADULMIR_NO_FRAME);
+            REFUSES(hadulmir_shorten, lines[i].shorter, HADULMIR_NO_FRAME);
+        }
+    }
+    CHECK(turn(hadulmir_lengthen, lines[0].shorter, 68, HADULMIR_LONG_LINE_SIZE) == 84);
+    CHECK(hadulmir_id_from_text((const char *)lent_bytes + 2, 32, &id) && id.high == 0 && id.low == UINT64_C(0xFEDCBA9876543210));
+}
+
+/* A long line of which one digit of the id is not 0: 15 comes of the upper half, and a byte behind it that is no digit gives 1 first. */
+static void try_digit(const char *line, size_t at, char digit)
+{
+    char text[HADULMIR_LONG_LINE_SIZE + 1];
+    size_t len = strlen(line), room;
+
+    strcpy(text, line);
+    memset(text + 2, '0', 32);
+    text[at] = digit;
+    for (room = 0; room <= HADULMIR_SHORT_LINE_SIZE; room += HADULMIR_SHORT_LINE_SIZE)
+        returns_at(hadulmir_shorten, text, len, room,
+                   at < 18 ? HADULMIR_ID_TOO_LARGE : room == 0 ? HADULMIR_TOO_SHORT : (int32_t)len - 16, __LINE__);
+    CHECK(at < 18 || (memcmp(lent_bytes, text, 2) == 0 && memcmp(lent_bytes + 2, text + 18, len - 18) == 0));
+    text[len - 1] = 'f';
+    for (room = 0; room <= HADULMIR_SHORT_LINE_SIZE; room += HADULMIR_SHORT_LINE_SIZE)
+        returns_at(hadulmir_shorten, text, len, room, HADULMIR_NO_FRAME, __LINE__);
+}
+
+/* Each digit of the id, with one bit and with all bits. */
+static void test_line_halves(void)
+{
+    static const char digits[] = "1248F";
+    size_t i, at, d;
+
+    for (i = 0; i < LINES; i++) {
+        if (strlen(lines[i].shorter) == strlen(lines[i].longer))
+            continue;
+        for (at = 2; at < 34; at++)
+            for (d = 0; d < sizeof digits - 1; d++)
+                try_digit(lines[i].longer, at, digits[d]);
+    }
+}
+
+/* How many digits the lines of a kind have, short and long; 0 if there is no such kind. */
+static size_t line_length(unsigned kind, int is_long)
+{
+    static const uint8_t lengths[2][8] = {{0, 68, 18, 18, 14, 4, 18, 18}, {0, 84, 34, 18, 14, 4, 34, 34}};
+
+    return kind < 8 ? lengths[is_long][kind] : 0;
+}
+
+/* What a call has to return for a text, and the turned line in `wanted`, by the sentences of #105. */
+static int32_t turned_by_hand(turning *way, const char *text, size_t len, size_t room, char *wanted)
+{
+    int lengthens = way == hadulmir_lengthen;
+    size_t need, i;
+
+    for (i = 0; i < len; i++)
+        if (text[i] == '\0' || strchr("0123456789ABCDEF", text[i]) == NULL)
+            return HADULMIR_NO_FRAME;
+    if (len < 2 || text[0] != '0' || len != line_length((unsigned)(text[1] - '0'), !lengthens))
+        return HADULMIR_NO_FRAME;
+    need = line_length((unsigned)(text[1] - '0'), lengthens);
+    if (need < len && strncmp(text + 2, ZEROS, 16) != 0)
+        return HADULMIR_ID_TOO_LARGE;
+    if (room < need)
+        return HADULMIR_TOO_SHORT;
+    sprintf(wanted, "%.2s%s%.*s", text, need > len ? ZEROS : "", (int)len - (need < len ? 18 : 2), text + (need < len ? 18 : 2));
+    return (int32_t)need;
+}
+
+/* A call on a text, beside what is worked out for it. Gives the number. */
+static int32_t beside_at(turning *way, const char *text, size_t len, size_t room, int line)
+{
+    char wanted[HADULMIR_LONG_LINE_SIZE + 1];
+    int32_t returned = turned_by_hand(way, text, len, room, wanted);
+
+    returns_at(way, text, len, room, returned, line);
+    check(returned < 0 || memcmp(lent_bytes, wanted, (size_t)returned) == 0, "the turned line", line);
+    return returned;
+}
+
+/* Both calls, each with a buffer that always suffices. */
+static void both_beside_at(const char *text, size_t len, int line)
+{
+    beside_at(hadulmir_lengthen, text, len, HADULMIR_LONG_LINE_SIZE, line);
+    beside_at(hadulmir_shorten, text, len, HADULMIR_SHORT_LINE_SIZE, line);
+}
+
+#define BOTH_BESIDE(text, len) both_beside_at((text), (len), __LINE__)
+
+/* Every kind, those too that there are not, with every length; and lengths that would be right if they were cut off to 8 or 16 bits. */
+static void test_line_lengths(void)
+{
+    static char text[65536 + HADULMIR_LONG_LINE_SIZE + 1];
+    unsigned kind;
+    size_t len, i;
+
+    memset(text, '0', sizeof text);
+    for (kind = 0; kind < 256; kind++) {
+        text[0] = "0123456789ABCDEF"[kind / 16];
+        text[1] = "0123456789ABCDEF"[kind % 16];
+        for (len = 0; len <= HADULMIR_LONG_LINE_SIZE + 2; len++)
+            if (kind <= 16 || len % 2 == 0)
+                BOTH_BESIDE(text, len);
+    }
+    for (i = 0; i < LINES; i++) {
+        memcpy(text, lines[i].longer, strlen(lines[i].longer));
+        for (len = 256; len <= 65536; len *= 256) {
+            BOTH_BESIDE(text, len + strlen(lines[i].shorter));
+            BOTH_BESIDE(text, len + strlen(lines[i].longer));
+            returns_at(hadulmir_lengthen, lines[i].shorter, strlen(lines[i].shorter), len, (int32_t)strlen(lines[i].longer), __LINE__);
+            returns_at(hadulmir_shorten, lines[i].longer, strlen(lines[i].longer), len, (int32_t)strlen(lines[i].shorter), __LINE__);
+        }
+    }
+}
+
+/* Every place of a line with the bytes beside the digits, digits in lower case, line ends and others that are no digits of a frame. */
+static void test_line_bytes(void)
+{
+    static const char bytes[] = "/09:@AFG`afg \n\r\t-+x\0\xB0\xC1\xFF";
+    char text[HADULMIR_LONG_LINE_SIZE + 1];
+    size_t i, at, b;
+
+    for (i = 0; i < 2 * LINES; i++) {
+        const char *line = i % 2 == 0 ? lines[i / 2].shorter : lines[i / 2].longer;
+
+        for (at = 0; at < strlen(line); at++)
+            for (b = 0; b < sizeof bytes; b++) {
+                strcpy(text, line);
+                text[at] = bytes[b];
+                BOTH_BESIDE(text, strlen(line));
+            }
+    }
+    BOTH_BESIDE("", 0);
+    BOTH_BESIDE("051F\n", 5);
+    BOTH_BESIDE("051F\r", 5);
+    BOTH_BESIDE(" 051F", 5);
+    BOTH_BESIDE("051F ", 5);
+    BOTH_BESIDE("refused 1", 9);
+}
+
+/* A text that is mostly a line, of either kind; the upper half of an id is mostly 0. Gives its length. */
+static size_t random_line(char *text)
+{
+    static const char bytes[] = "0123456789ABCDEFabcdefG:/@ \n";
+    unsigned kind = 1 + next_random() % 7, length_of = next_random() % 4 == 0 ? 1 + next_random() % 7 : kind;
+    size_t len = line_length(length_of, (int)(next_random() % 2)), at = next_random() % len, i;
+
+    text[0] = '0';
+    text[1] = (char)('0' + kind);
+    for (i = 2; i < len; i++)
+        text[i] = bytes[next_random() % 16];
+    if (len >= 34 && next_random() % 3 != 0)
+        memset(text + 2, '0', 16);
+    if (next_random() % 6 == 0)
+        text[at] = bytes[next_random() % (sizeof bytes - 1)];
+    return len;
+}
+
+/* Random texts beside what is worked out for them; a turned line, turned back, is itself again. */
+static void test_line_random(void)
+{
+    static turning *const ways[] = {hadulmir_lengthen, hadulmir_shorten};
+    unsigned seen[16] = {0}, turned_back[2] = {0};
+    char text[HADULMIR_LONG_LINE_SIZE + 1], back[HADULMIR_LONG_LINE_SIZE + 1];
+    unsigned i;
+
+    for (i = 0; i < 20000; i++) {
+        size_t len = random_line(text), room = next_random() % 4 == 0 ? next_random() % 90 : HADULMIR_LONG_LINE_SIZE;
+        int32_t returned = beside_at(ways[i % 2], text, len, room, __LINE__);
+
+        if (returned < 0) {
+            seen[-returned]++;
+            continue;
+        }
+        turned_back[i % 2]++;
+        memcpy(back, lent_bytes, (size_t)returned);
+        CHECK(turn(ways[1 - i % 2], back, (size_t)returned, len) == (int32_t)len && memcmp(lent_bytes, text, len) == 0);
+    }
+    CHECK(seen[1] > 500 && seen[13] > 500 && seen[15] > 500 && turned_back[0] > 500 && turned_back[1] > 500);
+}
+
 /* THE HEADER */
 
 static void test_names(void)
@@ -2449,13 +2715,13 @@ static void test_names(void)
     CHECK(HADULMIR_IMAGE_SIZE == 2697 && HADULMIR_ROW_SIZE == 25 && HADULMIR_ROWS_AT_MOST == 96 && HADULMIR_ROWS_SIZE == 2400);
     CHECK(HADULMIR_ENTRY_SIZE == 55 && HADULMIR_RECORD_SIZE == 63 && HADULMIR_EVENTS_AT_MOST == 48 && HADULMIR_RECORDS_SIZE == 3024);
     CHECK(HADULMIR_ID_SIZE == 16 && HADULMIR_ID_TEXT_SIZE == 33 && HADULMIR_PROGRAMS_AT_MOST == 8 && HADULMIR_CONTROLS_AT_MOST == 32);
-    CHECK(HADULMIR_CLOCK_AT_MOST == UINT64_C(9000000000));
+    CHECK(HADULMIR_CLOCK_AT_MOST == UINT64_C(9000000000) && HADULMIR_LONG_LINE_SIZE == 84 && HADULMIR_SHORT_LINE_SIZE == 68);
     CHECK(HADULMIR_CLOCK_AT == 0 && HADULMIR_COUNT_AT == 8 && HADULMIR_PROGRAMS_AT == 9 && HADULMIR_PROGRAM_SIZE == 6);
     CHECK(HADULMIR_EVENTS_AT == 57 && HADULMIR_IMAGE_LAYOUT == 3);
     CHECK(HADULMIR_BAD_IMAGE == -2 && HADULMIR_PROGRAM_TOO_LARGE == -3 && HADULMIR_PROGRAM_ADDED == -4 && HADULMIR_PRIMACY_RESERVED == -5);
     CHECK(HADULMIR_PROGRAM_UNKNOWN == -6 && HADULMIR_EVENT_INVALID == -7 && HADULMIR_EVENT_DIFFERS == -8 && HADULMIR_EVENT_EXPIRED == -9);
     CHECK(HADULMIR_FULL == -10 && HADULMIR_NOT_HELD == -11 && HADULMIR_BAD_CLOCK == -12 && HADULMIR_TOO_SHORT == -13);
-    CHECK(HADULMIR_CONTROL_TOO_LARGE == -14);
+    CHECK(HADULMIR_CONTROL_TOO_LARGE == -14 && HADULMIR_NO_FRAME == -1 && HADULMIR_ID_TOO_LARGE == -15);
     CHECK(HADULMIR_RECEIVED == 1 && HADULMIR_STARTED == 2 && HADULMIR_COMPLETED == 3 && HADULMIR_OPTED_OUT == 4 && HADULMIR_OPTED_IN == 5);
     CHECK(HADULMIR_CANCELLED == 6 && HADULMIR_SUPERSEDED == 7 && HADULMIR_PARTLY_OPTED_OUT == 8 && HADULMIR_PARTLY_OPTED_IN == 9);
     CHECK(HADULMIR_NOT_PARTICIPATED == 10 && HADULMIR_REJECTED_INVALID == 253 && HADULMIR_REJECTED_EXPIRED == 254);
@@ -2486,9 +2752,9 @@ static void test_helpers(void)
         CHECK(hadulmir_response_for(n) == (n == -7 ? 253 : n == -9 ? 254 : 0));
     }
     /* a text of its own for each refusal, on one line; one text for all that is none */
-    for (n = -15; n <= 1; n++)
-        for (m = -15; m <= 1; m++) {
-            int one = n == m || ((n < -14 || n > -2) && (m < -14 || m > -2));
+    for (n = -17; n <= 2; n++)
+        for (m = -17; m <= 2; m++) {
+            int one = n == m || ((n < -15 || n > -1) && (m < -15 || m > -1));
 
             CHECK((strcmp(hadulmir_refusal_text(n), hadulmir_refusal_text(m)) == 0) == one);
             CHECK(strlen(hadulmir_refusal_text(n)) > 0 && strchr(hadulmir_refusal_text(n), '\n') == NULL);
@@ -2697,6 +2963,11 @@ int main(void)
     test_power();
     test_fresh_again();
     test_choices_again();
+    test_lines();
+    test_line_halves();
+    test_line_lengths();
+    test_line_bytes();
+    test_line_random();
     printf("face: %u passed, %u failed\n", passed, failed);
     return failed != 0;
 }

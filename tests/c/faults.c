@@ -16,6 +16,8 @@ int32_t __real_hadulmir_opt_in(uint8_t *, uint64_t, uint64_t, uint64_t);
 int32_t __real_hadulmir_set_clock(uint8_t *, uint64_t, uint64_t, uint8_t *, uint64_t);
 int32_t __real_hadulmir_ask(const uint8_t *, uint64_t, uint8_t, uint8_t *, uint64_t);
 int32_t __real_hadulmir_list(const uint8_t *, uint64_t, uint8_t *, uint64_t);
+int32_t __real_hadulmir_lengthen(const uint8_t *, uint64_t, uint8_t *, uint64_t);
+int32_t __real_hadulmir_shorten(const uint8_t *, uint64_t, uint8_t *, uint64_t);
 
 /*
  * Ids. 1: an id is found by its lower half alone. 2: the halves of an id that is given are exchanged. 3: ids are ordered as signed numbers.
@@ -250,7 +252,7 @@ static void put_earliest(uint8_t *record, uint64_t time)
 }
 
 /* 25: a byte of the image is changed. 26: the earliest start is the effective start. 27: it is start + randomizeStart, lesser or not. 28: a
-   buffer that is long enough for the entries alone is accepted. 29: the choice is not listed. 30: a byte behind the image is read, which
+   buffer that is long enough for the entries alone is accepted. 29: the choice is not listed. 44: a byte behind the image is read, which
    valgrind alone sees. */
 int32_t __wrap_hadulmir_list(const uint8_t *image, uint64_t image_len, uint8_t *records, uint64_t records_len)
 {
@@ -273,7 +275,90 @@ int32_t __wrap_hadulmir_list(const uint8_t *image, uint64_t image_len, uint8_t *
         return hadulmir_count_of(image);
     for (i = 0; FAULT == 29 && i < returned; i++)
         records[(size_t)i * HADULMIR_RECORD_SIZE + HADULMIR_ENTRY_SIZE - 1] = 0;
-    if (FAULT == 30 && returned >= 0 && image[image_len] == 0x77 && image[image_len + 1] == 0x78)
+    if (FAULT == 44 && returned >= 0 && image[image_len] == 0x77 && image[image_len + 1] == 0x78)
         return returned + 1;
     return returned;
+}
+
+/* A copy of a line in upper case, if it is short enough to be one. */
+static const uint8_t *in_upper_case(const uint8_t *line, uint64_t line_len)
+{
+    static uint8_t copy[HADULMIR_LONG_LINE_SIZE];
+    size_t i;
+
+    if (line_len > sizeof copy)
+        return line;
+    for (i = 0; i < line_len; i++)
+        copy[i] = (uint8_t)('a' <= line[i] && line[i] <= 'f' ? line[i] - 'a' + 'A' : line[i]);
+    return copy;
+}
+
+/* Answers with the line as it came. */
+static int32_t passed(const uint8_t *line, uint64_t line_len, uint8_t *out, uint64_t out_len)
+{
+    if (out_len < line_len)
+        return HADULMIR_TOO_SHORT;
+    memcpy(out, line, (size_t)line_len);
+    return (int32_t)line_len;
+}
+
+/* Whether the controls of a short event are 0. */
+static int is_empty(const uint8_t *line, uint64_t line_len)
+{
+    return line_len == HADULMIR_SHORT_LINE_SIZE && memcmp(line, "01", 2) == 0 && memcmp(line + 20, "00000000", 8) == 0;
+}
+
+/* 30: digits in lower case are taken. 31: a line feed at the end is taken with the line. 32: a long line passes. 33: an event without controls
+   is refused. 34: an opt-in passes as it is. 35: the zeros stand behind the id. 36: a buffer that fits is too short. 37: a line feed is written
+   behind the line. 45: a byte behind the line is read, which valgrind alone sees. */
+int32_t __wrap_hadulmir_lengthen(const uint8_t *line, uint64_t line_len, uint8_t *out, uint64_t out_len)
+{
+    int32_t returned;
+
+    if (FAULT == 30)
+        line = in_upper_case(line, line_len);
+    if (FAULT == 31 && line_len > 0 && line[line_len - 1] == '\n')
+        line_len--;
+    if (FAULT == 33 && is_empty(line, line_len))
+        return HADULMIR_NO_FRAME;
+    if (FAULT == 34 && __real_hadulmir_lengthen(line, line_len, out, 0) == HADULMIR_TOO_SHORT && line[1] == '7')
+        return passed(line, line_len, out, out_len);
+    if (FAULT == 36 && out_len == HADULMIR_LONG_LINE_SIZE)
+        out_len--;
+    returned = __real_hadulmir_lengthen(line, line_len, out, out_len);
+    if (FAULT == 32 && returned == HADULMIR_NO_FRAME && __real_hadulmir_shorten(line, line_len, out, 0) != HADULMIR_NO_FRAME)
+        return passed(line, line_len, out, out_len);
+    if (FAULT == 35 && returned > (int32_t)line_len) {
+        memmove(out + 2, out + 18, 16);
+        memset(out + 18, '0', 16);
+    }
+    if (FAULT == 37 && returned > 0 && out_len > (uint64_t)returned)
+        out[returned] = '\n';
+    if (FAULT == 45 && returned > 0 && line[line_len] == 0x77)
+        return returned + 1;
+    return returned;
+}
+
+/* 38: of the upper half the first digit does not count. 39: 13 comes before 15. 40: a line refused with 15 is written. 41: a short line
+   passes. 42: the length of the long line is answered. 43: 15 comes before 1. */
+int32_t __wrap_hadulmir_shorten(const uint8_t *line, uint64_t line_len, uint8_t *out, uint64_t out_len)
+{
+    uint8_t copy[HADULMIR_LONG_LINE_SIZE];
+    int32_t returned;
+
+    if (FAULT == 38 && line_len >= 34 && line_len <= sizeof copy) {
+        memcpy(copy, line, (size_t)line_len);
+        copy[2] = '0';
+        line = copy;
+    }
+    if (FAULT == 43 && line_len == HADULMIR_LONG_LINE_SIZE && memcmp(line + 2, "0000000000000000", 16) != 0)
+        return HADULMIR_ID_TOO_LARGE;
+    returned = __real_hadulmir_shorten(line, line_len, out, out_len);
+    if (FAULT == 39 && returned == HADULMIR_ID_TOO_LARGE && out_len < line_len - 16)
+        return HADULMIR_TOO_SHORT;
+    if (FAULT == 40 && returned == HADULMIR_ID_TOO_LARGE && out_len > 2)
+        memcpy(out, line, 2);
+    if (FAULT == 41 && returned == HADULMIR_NO_FRAME && __real_hadulmir_lengthen(line, line_len, out, 0) != HADULMIR_NO_FRAME)
+        return passed(line, line_len, out, out_len);
+    return FAULT == 42 && returned > 0 ? (int32_t)line_len : returned;
 }

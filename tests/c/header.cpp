@@ -24,6 +24,7 @@ static_assert(HADULMIR_IMAGE_SIZE == 2697 && HADULMIR_ROW_SIZE == 25 && HADULMIR
 static_assert(HADULMIR_ROWS_SIZE == 2400 && HADULMIR_ENTRY_SIZE == 55 && HADULMIR_RECORD_SIZE == 63 && HADULMIR_EVENTS_AT_MOST == 48, "sizes");
 static_assert(HADULMIR_RECORDS_SIZE == 3024 && HADULMIR_ID_SIZE == 16 && HADULMIR_ID_TEXT_SIZE == 33, "sizes");
 static_assert(HADULMIR_PROGRAMS_AT_MOST == 8 && HADULMIR_CONTROLS_AT_MOST == 32, "sizes");
+static_assert(HADULMIR_LONG_LINE_SIZE == 84 && HADULMIR_SHORT_LINE_SIZE == 68, "sizes");
 static_assert(HADULMIR_CLOCK_AT_MOST == 9000000000u && HADULMIR_STACK_SIZE > 0, "limits");
 static_assert(HADULMIR_VERSION >= 10000 && sizeof HADULMIR_VERSION_TEXT > 5 && HADULMIR_IMAGE_LAYOUT > 0, "version");
 static_assert(HADULMIR_COUNT_AT == HADULMIR_CLOCK_AT + 8 && HADULMIR_PROGRAMS_AT == HADULMIR_COUNT_AT + 1, "image layout");
@@ -37,6 +38,8 @@ static_assert(std::is_same<decltype(&hadulmir_opt_in), decltype(&hadulmir_opt_ou
 static_assert(std::is_same<decltype(&hadulmir_cancel), decltype(&hadulmir_opt_out)>::value, "cancel");
 static_assert(std::is_same<decltype(&hadulmir_ask), int32_t (*)(const uint8_t *, uint64_t, uint8_t, uint8_t *, uint64_t)>::value, "ask");
 static_assert(std::is_same<decltype(&hadulmir_list), int32_t (*)(const uint8_t *, uint64_t, uint8_t *, uint64_t)>::value, "list");
+static_assert(std::is_same<decltype(&hadulmir_lengthen), decltype(&hadulmir_list)>::value, "lengthen");
+static_assert(std::is_same<decltype(&hadulmir_shorten), decltype(&hadulmir_list)>::value, "shorten");
 
 static bool is_ours(hadulmir_id id)
 {
@@ -47,6 +50,7 @@ static bool is_ours(hadulmir_id id)
 static bool is_named(int32_t returned)
 {
     switch (returned) {
+    case HADULMIR_NO_FRAME:
     case HADULMIR_BAD_IMAGE:
     case HADULMIR_PROGRAM_TOO_LARGE:
     case HADULMIR_PROGRAM_ADDED:
@@ -60,6 +64,7 @@ static bool is_named(int32_t returned)
     case HADULMIR_BAD_CLOCK:
     case HADULMIR_TOO_SHORT:
     case HADULMIR_CONTROL_TOO_LARGE:
+    case HADULMIR_ID_TOO_LARGE:
         return true;
     default:
         return false;
@@ -78,7 +83,7 @@ int main()
     hadulmir_id_put(ours, id);
     CHECK(is_ours(hadulmir_id_at(id)) && hadulmir_id_compare(ours, hadulmir_id_at(id)) == 0);
     for (int32_t n = -20; n < 20; n++)
-        CHECK(is_named(n) == (n <= -2 && n >= -14) && is_named(n) == (std::strcmp(hadulmir_refusal_text(n), hadulmir_refusal_text(0)) != 0));
+        CHECK(is_named(n) == (n <= -1 && n >= -15) && is_named(n) == (std::strcmp(hadulmir_refusal_text(n), hadulmir_refusal_text(0)) != 0));
 
     CHECK(hadulmir_fresh(image, sizeof image) == 0);
     CHECK(hadulmir_add_program(image, sizeof image, 0, 1, 0x2) == 0);
@@ -128,6 +133,16 @@ int main()
     CHECK(HADULMIR_PARTLY_OPTED_OUT == 8 && HADULMIR_PARTLY_OPTED_IN == 9 && HADULMIR_NOT_PARTICIPATED == 10);
     std::memset(image, 0xFF, sizeof image);
     CHECK(hadulmir_list(image, sizeof image, records, sizeof records) == HADULMIR_BAD_IMAGE);
+
+    const uint8_t cancellation[] = {'0', '2', '0', '0', '0', '0', '0', '0', '0', '0', '0', '0', '0', '0', '0', '0', '0', '7'};
+    uint8_t long_line[HADULMIR_LONG_LINE_SIZE], short_line[HADULMIR_SHORT_LINE_SIZE];
+    CHECK(hadulmir_lengthen(cancellation, sizeof cancellation, long_line, sizeof long_line) == 34);
+    CHECK(std::memcmp(long_line, "0200000000000000000000000000000007", 34) == 0);
+    CHECK(hadulmir_shorten(long_line, 34, short_line, sizeof short_line) == 18);
+    CHECK(std::memcmp(short_line, cancellation, sizeof cancellation) == 0);
+    CHECK(hadulmir_lengthen(long_line, 34, long_line + 34, 50) == HADULMIR_NO_FRAME && hadulmir_response_for(HADULMIR_NO_FRAME) == 0);
+    long_line[2] = '1';
+    CHECK(hadulmir_shorten(long_line, 34, short_line, 0) == HADULMIR_ID_TOO_LARGE && hadulmir_response_for(HADULMIR_ID_TOO_LARGE) == 0);
 
     std::printf("header: %u passed, %u failed\n", passed, failed);
     return failed != 0;

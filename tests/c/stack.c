@@ -20,6 +20,7 @@
 
 static uint8_t stack[STACK] __attribute__((aligned(64)));
 static uint8_t image[IMAGE], rows[HADULMIR_ROWS_SIZE], records[HADULMIR_RECORDS_SIZE], id[HADULMIR_ID_SIZE];
+static uint8_t line[HADULMIR_LONG_LINE_SIZE], turned[HADULMIR_LONG_LINE_SIZE];
 static volatile int32_t returned;
 
 static void empty(void)
@@ -70,6 +71,23 @@ static void ask(void)
 static void list(void)
 {
     returned = hadulmir_list(image, IMAGE, records, sizeof records);
+}
+
+/* Of an event, and then of a question: with an id and without one. */
+static void lengthen(void)
+{
+    line[1] = '1';
+    returned = hadulmir_lengthen(line, HADULMIR_SHORT_LINE_SIZE, turned, sizeof turned);
+    line[1] = '5';
+    returned = hadulmir_lengthen(line, 4, turned, sizeof turned);
+}
+
+static void shorten(void)
+{
+    line[1] = '1';
+    returned = hadulmir_shorten(line, HADULMIR_LONG_LINE_SIZE, turned, sizeof turned);
+    line[1] = '5';
+    returned = hadulmir_shorten(line, 4, turned, sizeof turned);
 }
 
 #ifdef BARE
@@ -164,9 +182,11 @@ int main(void)
         void (*call)(void);
     } functions[] = {{"hadulmir_fresh", fresh}, {"hadulmir_add_program", add_program}, {"hadulmir_deliver", deliver},
                      {"hadulmir_cancel", cancel}, {"hadulmir_opt_out", opt_out}, {"hadulmir_opt_in", opt_in},
-                     {"hadulmir_set_clock", set_clock}, {"hadulmir_ask", ask}, {"hadulmir_list", list}};
+                     {"hadulmir_set_clock", set_clock}, {"hadulmir_ask", ask}, {"hadulmir_list", list},
+                     {"hadulmir_lengthen", lengthen}, {"hadulmir_shorten", shorten}};
     size_t base = most(empty), worst = 0, i;
 
+    memset(line, '0', sizeof line);
     for (i = 0; i < sizeof functions / sizeof functions[0]; i++) {
         size_t bytes = most(functions[i].call) - base;
 

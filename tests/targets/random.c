@@ -1,8 +1,8 @@
 /*
- * Random calls through the C face, the same on every machine. After each call the returned number and every byte of the image and of the lent
- * buffer, with guard bytes on both sides, go into one digest; two machines on which the part does the same print the same digest. The calls
- * are mostly near what is accepted, so that events start, overlap, supersede each other, end, are cancelled, are opted out of and in to. The
- * counts at the end say what came; it ends with 1 if an answer or a refusal never came.
+ * Random calls through the C face, the same on every machine. After each call the returned number and every byte of the image, of the line
+ * and of the lent buffer, with guard bytes on both sides, go into one digest; two machines on which the part does the same print the same
+ * digest. The calls are mostly near what is accepted, so that events start, overlap, supersede each other, end, are cancelled, are opted out of
+ * and in to, and that lines are turned. The counts at the end say what came; it ends with 1 if an answer or a refusal never came.
  */
 #include <stdint.h>
 #include <stdio.h>
@@ -15,6 +15,7 @@
 #define LENT HADULMIR_RECORDS_SIZE
 #define GUARD 24
 #define IDS 64
+#define LINE_ROOM (HADULMIR_LONG_LINE_SIZE + 2)
 
 /* NUMBERS AND DIGEST. No expression draws twice without a sequence point between, as compilers differ in the order of operands. */
 
@@ -55,6 +56,8 @@ static void take_in(const uint8_t *bytes, size_t size)
 static uint64_t image_space[(GUARD + 8 + IMAGE + GUARD) / 8 + 1], lent_space[(GUARD + 8 + LENT + GUARD) / 8 + 1];
 static uint8_t *const image_block = (uint8_t *)image_space, *const lent_block = (uint8_t *)lent_space;
 static uint8_t *image = (uint8_t *)image_space + GUARD;
+static uint64_t line_space[(GUARD + 8 + LINE_ROOM + GUARD) / 8 + 1];
+static uint8_t *const line_block = (uint8_t *)line_space;
 
 static void move_image(void)
 {
@@ -68,7 +71,7 @@ static void move_image(void)
 
 /* CALLS, all made through `make`, which spoils now and then what the call is given, and counts. */
 
-enum kind { FRESH, ADD, DELIVER, CANCEL, OPT_OUT, OPT_IN, CLOCK, ASK, LIST, KINDS };
+enum kind { FRESH, ADD, DELIVER, CANCEL, OPT_OUT, OPT_IN, CLOCK, ASK, LIST, LENGTHEN, SHORTEN, KINDS };
 
 struct event {
     struct hadulmir_id id;
@@ -77,7 +80,7 @@ struct event {
     int32_t randomize_start, randomize_duration, start_draw, duration_draw;
 };
 
-/* What is given to a call besides image and buffer: `number` is a program, a control or a reading. */
+/* What is given to a call besides image and buffer: `number` is a program, a control, a reading or the length of `line`. */
 struct call {
     enum kind kind;
     uint64_t number;
@@ -85,11 +88,12 @@ struct call {
     uint8_t primacy;
     uint32_t defaults;
     struct event event;
+    const uint8_t *line;
     uint64_t room;
 };
 
-static uint32_t calls, answered[KINDS], refused[15], rows_of[HADULMIR_NOT_PARTICIPATED + 1], changed[KINDS], unchanged[KINDS];
-static uint32_t held_by_event, by_default, by_nobody, kept_back, earlier, later;
+static uint32_t calls, answered[KINDS], refused[16], rows_of[HADULMIR_NOT_PARTICIPATED + 1], changed[KINDS], unchanged[KINDS];
+static uint32_t held_by_event, by_default, by_nobody, kept_back, earlier, later, widened, narrowed, passed;
 
 static int32_t act(const struct call *c, uint64_t len, uint8_t *lent)
 {
@@ -114,8 +118,12 @@ static int32_t act(const struct call *c, uint64_t len, uint8_t *lent)
         return hadulmir_set_clock(image, len, c->number, lent, c->room);
     case ASK:
         return hadulmir_ask(image, len, (uint8_t)c->number, lent, c->room);
-    default:
+    case LIST:
         return hadulmir_list(image, len, lent, c->room);
+    case LENGTHEN:
+        return hadulmir_lengthen(c->line, c->number, lent, c->room);
+    default:
+        return hadulmir_shorten(c->line, c->number, lent, c->room);
     }
 }
 
@@ -136,7 +144,7 @@ static void count(const struct call *c, int32_t returned, const uint8_t *lent)
 
     calls++;
     if (returned < 0) {
-        if (returned >= -14)
+        if (returned >= -15)
             refused[-returned]++;
         return;
     }
@@ -157,6 +165,11 @@ static void count(const struct call *c, int32_t returned, const uint8_t *lent)
 
         earlier += record.earliest_start < record.entry.event.start;
         later += record.earliest_start == record.entry.event.start && record.entry.event.randomize_start > 0;
+    }
+    if (c->kind == LENGTHEN || c->kind == SHORTEN) {
+        widened += (uint64_t)returned > c->number;
+        narrowed += (uint64_t)returned < c->number;
+        passed += (uint64_t)returned == c->number;
     }
 }
 
@@ -197,8 +210,10 @@ static int32_t make(const struct call *c)
         number[i] = (uint8_t)((uint32_t)returned >> (8 * i));
     take_in(number, 4);
     take_in(image_block, sizeof image_space);
-    if (c->kind == CLOCK || c->kind == ASK || c->kind == LIST)
+    if (c->kind >= CLOCK)
         take_in(lent_block, (size_t)(lent - lent_block) + (size_t)c->room + GUARD);
+    if (c->kind >= LENGTHEN)
+        take_in(line_block, sizeof line_space);
     if (spoilt && (returned == HADULMIR_BAD_IMAGE || once_in(2)))
         memcpy(image, before, IMAGE);
     return returned;
@@ -361,6 +376,59 @@ static void list(void)
     make(&c);
 }
 
+/* A line, short or long, mostly of a kind that there is; the upper half of its id is mostly 0. Gives its length. */
+static uint32_t write_line(uint8_t *line)
+{
+    static const uint8_t lengths[2][8] = {{2, 68, 18, 18, 14, 4, 18, 18}, {2, 84, 34, 18, 14, 4, 34, 34}};
+    uint32_t kind = once_in(20) ? 0 : 1 + below(7), length = lengths[below(2)][kind], i;
+
+    memset(line, '0', LINE_ROOM);
+    line[1] = (uint8_t)('0' + kind);
+    for (i = once_in(4) ? 2 : 2 + length - lengths[0][kind]; i < length; i++)
+        line[i] = (uint8_t)"0123456789ABCDEF"[below(16)];
+    return length;
+}
+
+/* Now and then another byte, the top bit of the id, an event without controls, a line end, another length. Gives the length. */
+static uint32_t change_line(uint8_t *line, uint32_t length)
+{
+    uint32_t at = below(length);
+
+    switch (below(20)) {
+    case 0:
+    case 1:
+        line[at] = (uint8_t)"abcdefG:/@ \r"[below(12)];
+        break;
+    case 2:
+        line[2] = '8';
+        break;
+    case 3:
+        memset(line + 20, '0', 8);
+        break;
+    case 4:
+        line[length] = '\n';
+        return length + 1;
+    case 5:
+        return length + 1 + below(2);
+    case 6:
+        return length - 1;
+    }
+    return length;
+}
+
+static void turn_line(enum kind kind)
+{
+    struct call c = blank(kind);
+    uint8_t *line = line_block + GUARD + below(8);
+
+    memset(line_block, 0xA5, sizeof line_space);
+    c.line = line;
+    c.number = write_line(line);
+    c.number = change_line(line, (uint32_t)c.number);
+    c.room = once_in(3) ? below(LINE_ROOM) : once_in(2) ? HADULMIR_LONG_LINE_SIZE : HADULMIR_SHORT_LINE_SIZE;
+    make(&c);
+}
+
 /* RUNS OF CALLS */
 
 static void fresh(void)
@@ -408,7 +476,7 @@ static void many_rows(void)
 
 static void one_call(void)
 {
-    uint32_t which = below(100);
+    uint32_t which = below(110);
 
     if (which < 40)
         deliver();
@@ -424,6 +492,8 @@ static void one_call(void)
         ask();
     else if (which < 96)
         list();
+    else if (which >= 100)
+        turn_line(which % 2 == 0 ? LENGTHEN : SHORTEN);
     else
         add_program((uint8_t)below(5));
 }
@@ -440,7 +510,8 @@ static void say(const char *what, uint32_t times_seen)
 
 int main(void)
 {
-    static const char *const names[KINDS] = {"fresh", "add_program", "deliver", "cancel", "opt_out", "opt_in", "set_clock", "ask", "list"};
+    static const char *const names[KINDS] = {"fresh", "add_program", "deliver", "cancel", "opt_out", "opt_in", "set_clock", "ask", "list",
+                                             "lengthen", "shorten"};
     static const uint8_t codes[] = {HADULMIR_STARTED, HADULMIR_COMPLETED, HADULMIR_SUPERSEDED, HADULMIR_PARTLY_OPTED_OUT,
                                     HADULMIR_PARTLY_OPTED_IN, HADULMIR_NOT_PARTICIPATED};
     char what[40];
@@ -457,7 +528,7 @@ int main(void)
         snprintf(what, sizeof what, "%s answered", names[i]);
         say(what, answered[i]);
     }
-    for (i = 2; i <= 14; i++) {
+    for (i = 1; i <= 15; i++) {
         snprintf(what, sizeof what, "refusal %lu", (unsigned long)i);
         say(what, refused[i]);
     }
@@ -477,6 +548,9 @@ int main(void)
     say("held by an event that the user is out of", kept_back);
     say("listed, may begin before its start", earlier);
     say("listed, may begin after its start", later);
+    say("lengthened by sixteen digits", widened);
+    say("shortened by sixteen digits", narrowed);
+    say("passed without an id", passed);
     if (none)
         printf("random: something never came\n");
     printf("random: %lu calls, digest %08lx%08lx\n", (unsigned long)calls, (unsigned long)(digest >> 32), (unsigned long)(digest & 0xFFFFFFFFu));

@@ -12,7 +12,6 @@ pub mod Acting  -- the number that a call gives by value, and what a call on slo
 pub mod Returned  -- a call by value is the call on its slots
 pub mod Clocked  -- a clock call gives 12, 13, or what the moments leave
 pub mod Asking  -- a control's first holder, and its best default
-pub mod Ends  -- where a line ends
 pub mod Said  -- the text of a line is that of its frame's call
 pub mod Longest  -- a line's text has a bound
 pub mod Running  -- what is known before each line of a run, and what a line adds

@@ -12,7 +12,7 @@ use Rattle.rules.specs.declared.Line.{Line}
 use Rattle.rules.specs.declared.Line.the-variants.{Good, Bad}
 use Rattle.rules.specs.Calls.{byEvent, byProgram, byNone, Value, nothing, code, count, governor, counted, call}
 use Rattle.rules.specs.Frames.{lineOf, frameCall}
-use Rattle.rules.specs.Printed.{mostDigits, mostIdDigits, refusedText, codeText, askText, frameText, room, tellFrame, tellLine, tell}
+use Rattle.rules.specs.Printed.{mostDigits, mostIdDigits, refusedText, codeText, askText, frameText, room, tellFrame, tellLine, tell, tellIn}
 use Rattle.text.specs.Texts.{mostText}
 use Rattle.text.proofs.Printing.{decimal-length, three-length, rows-length}
 use Rattle.calls.proofs.Said.{call-counted}
@@ -47,7 +47,7 @@ frame-length s (frame.Ask c) = ask-length c (call s (frameCall (frame.Ask c) roo
 
 -- no line's text is longer
 pub tell-length : (s : Schedule) (l : List ℕ) → length (tell s l .text) ≤ mostText
-unfolding tell tellFrame
+unfolding tellIn tellFrame
 tell-length s l = by (lineOf l)
   where
     by : (x : Line) → length (tellLine s x .text) ≤ mostText

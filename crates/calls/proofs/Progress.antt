@@ -13,7 +13,8 @@ use Rattle.rules.specs.Sound.{sound}
 use Rattle.rules.specs.Calls.{valueOf, counted}
 use Rattle.rules.specs.Printed.{tell}
 use Rattle.text.specs.Texts.{mostText}
-use Rattle.calls.specs.Lines.{endedOf, runs, RunOutcome, ranOf, ranInto, runOutcome}
+use Rattle.frame.specs.Ends.{endedOf}
+use Rattle.calls.specs.Lines.{runs, RunOutcome, ranOf, ranInto, runOutcome}
 use Rattle.calls.specs.declared.Ran.{Ran}
 use Rattle.calls.proofs.Longest.{tell-length}
 use Rattle.calls.proofs.Running.{sound-told, runs-within}

@@ -16,20 +16,21 @@ use Rattle.rules.specs.Lists.{over}
 use Rattle.rules.specs.Sound.{sound}
 use Rattle.rules.specs.Calls.{count}
 use Rattle.rules.specs.Frames.{lineOf, frameCall}
-use Rattle.rules.specs.Printed.{room, tellFrame, tellLine, tell}
+use Rattle.rules.specs.Printed.{room, tellFrame, tellLine, tell, tellIn}
 use Rattle.rules.proofs.Over.{over-then, over-size}
 use Rattle.rules.proofs.SoundKept.{sound-call}
-use Rattle.calls.specs.Lines.{longer, endedOf, upTo, Run, runs, ranInto}
+use Rattle.frame.specs.Ends.{longer, endedOf, upTo}
+use Rattle.calls.specs.Lines.{Run, runs, ranInto}
 use Rattle.text.specs.Texts.{mostText}
 use Rattle.calls.specs.declared.lines.Telling.{Telling}
 use Rattle.calls.specs.Slots.{scheduleOf}
 use Rattle.calls.specs.Says.{Says}
 use Rattle.calls.proofs.Longest.{tell-length}
-use Rattle.calls.proofs.Ends.{ended-first, ended-none, up-to-within}
+use Rattle.frame.proofs.Ends.{ended-first, ended-none, up-to-within}
 
 -- a line leaves a sound schedule
 pub sound-told : (s : Schedule) → sound s ≡ true → (l : List ℕ) → sound (tell s l .state) ≡ true
-unfolding tell tellFrame
+unfolding tellIn tellFrame
 sound-told s e l = by (lineOf l)
   where
     by : (x : Line) → sound (tellLine s x .state) ≡ true
@@ -105,7 +106,7 @@ module _ {first : Schedule} {lines old : List ℕ} {s : Schedule} {from at : ℕ
 
       pub running-more : {told : Telling} {w : List (List ℕ)} {rows newer : List ℕ} {line : Line} → mostText ≤ length old - at → line ≡ lineOf l → Says s line new at told w rows newer
           → Running first lines old (scheduleOf (told .head) w) (end + 1) (told .behind) newer
-      unfolding runs tell
+      unfolding runs tellIn
       running-more {told} {w} {rows} {newer} {line} g is said =
           let says : Says s (lineOf l) new at told w rows newer = rw is at said in
           let t = tell s l .text in

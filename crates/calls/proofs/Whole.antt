@@ -10,11 +10,11 @@ use lib.Dec.{leb, ltb, eqb}
 use lib.ListN.{length, take, drop, length-append}
 use lib.Seq.{drop-drop, length-take-le, take-all, take-append-seam}
 use Rattle.rules.specs.declared.Schedule.{Schedule}
-use Rattle.rules.specs.Records.{fresh, pad}
+use Rattle.rules.specs.Records.{idSize, fresh, pad}
 use Rattle.rules.specs.Lists.{over}
 use Rattle.rules.specs.Sound.{sound}
 use Rattle.rules.specs.Calls.{count}
-use Rattle.rules.specs.Printed.{linesOf, lineFeed, tell, tellAll, output}
+use Rattle.rules.specs.Printed.{linesOf, lineFeed, tell, tellIn, tellAll, tellAllIn, output}
 use Rattle.rules.specs.Example.{exampleInput, exampleOutput}
 use Rattle.rules.proofs.SoundState.{sound-pad}
 use Rattle.rules.proofs.SoundKept.{sound-fresh}
@@ -22,43 +22,18 @@ use Rattle.rules.proofs.Evaluated.{worked-example}
 use Rattle.frame.specs.Decoded.{longestLine}
 use Rattle.frame.proofs.ByKind.{long-line}
 use Rattle.text.specs.Texts.{mostText}
-use Rattle.calls.specs.Lines.{longer, endedOf, upTo, runs, runOutcome}
+use Rattle.frame.specs.Ends.{longer, endedOf, upTo}
+use Rattle.calls.specs.Lines.{runs, runOutcome}
 use Rattle.calls.specs.Whole.{wrote, afterLines, lastByte, Ended, Turn, cameIn, turns}
-use Rattle.calls.proofs.Ends.{ended-first, ended-none, up-to-within}
+use Rattle.frame.proofs.Ends.{first-line, cut-lines}
 use Rattle.calls.proofs.Running.{total}
 use Rattle.calls.proofs.Progress.{runs-some, runs-sound}
-
--- the first line of a text that has a line feed, and the lines after it
-lines-first : (t more : List ℕ) → upTo t < length t → linesOf (t ++ more) ≡ take (upTo t) t ∷ linesOf (drop (suc (upTo t)) t ++ more)
-unfolding linesOf upTo
-lines-first [] more h = absurd (omega arith)
-lines-first (b ∷ bs) more h = cases (eqb b 10) (λ e. rw e) (λ e. rw (e, lines-first bs more (omega (arith, rw e at h))))
-
--- a line that has ended is a line, and those after it are those of the rest
-record FirstLine (t l : List ℕ) (ls : List (List ℕ)) : Type 0 where
-  first : (more : List ℕ) → linesOf (t ++ more) ≡ l ∷ linesOf (drop (suc (length l)) t ++ more)
-  rest : endedOf (drop (suc (length l)) t) ≡ ls
-
-first-line : (t l : List ℕ) (ls : List (List ℕ)) → endedOf t ≡ l ∷ ls → FirstLine t l ls
-first-line t l ls e = by (ltb (upTo t) (length t)) refl
-  where
-    by : (x : Bool) → ltb (upTo t) (length t) ≡ x → FirstLine t l ls
-    by true x =
-        let h = ltb-true (upTo t) (length t) x in
-        let q = sym e ∙ ended-first t h in
-        let p : l ≡ take (upTo t) t = cc in
-        let n : length l ≡ upTo t = ap length p ∙ length-take-le (upTo t) t (omega arith) in
-        record { first = λ more. rw (n, p) (lines-first t more h); rest = rw n (cc) }
-    by false x =
-        let none = ended-none t (omega (arith, ltb-false (upTo t) (length t) x, up-to-within t)) in
-        let z : _≡_ {A = ℕ} 0 1 = cc in
-        absurd (omega arith)
 
 -- lines that begin with those that have ended, and go on with those of the rest
 module _ (lines : List ℕ → List (List ℕ)) (first : (t l : List ℕ) (ls : List (List ℕ)) → endedOf t ≡ l ∷ ls → lines t ≡ l ∷ lines (drop (suc (length l)) t)) where
   runs-step : (ls : List (List ℕ)) (room : ℕ) (s : Schedule) (t : List ℕ) → endedOf t ≡ ls
       → tellAll s (lines t) ≡ runs room s ls .text ++ tellAll (runs room s ls .state) (lines (drop (runs room s ls .read) t))
-  unfolding runs tellAll
+  unfolding runs tellAllIn
   runs-step [] room s t e = refl
   runs-step (l ∷ ls) room s t e =
       let o = tell s l in
@@ -81,7 +56,7 @@ ended-step = run-step endedOf (λ t l ls e. e ∙ ap (λ r. l ∷ r) (sym (first
 
 -- with room for all texts and one more, no line is left for want of room
 runs-all : (ls : List (List ℕ)) (room : ℕ) (s : Schedule) → length (tellAll s ls) + mostText ≤ room → runs room s ls ≡ record { state = afterLines s ls; read = total ls; text = tellAll s ls }
-unfolding runs tellAll afterLines total
+unfolding runs tellAllIn afterLines total
 runs-all [] room s h = refl
 runs-all (l ∷ ls) room s h =
     let o = tell s l in
@@ -117,7 +92,7 @@ in-turn (x ∷ xs) s left =
     rw (← append-assoc left (x .new) (cameIn xs), step s (left ++ x .new) (x .out) (cameIn xs), in-turn xs (r .state) (drop (r .read) (left ++ x .new)), append-assoc)
 
 pub all-taken : (xs : List Turn) → turns (pad fresh) [] xs .left ≡ [] → turns (pad fresh) [] xs .text ≡ output (cameIn xs)
-unfolding linesOf tellAll
+unfolding linesOf tellAllIn
 all-taken xs e = sym (in-turn xs (pad fresh) [] ∙ rw e (append-nil (turns (pad fresh) [] xs .text)))
 
 -- a text all of whose lines have ended is these lines, each with its line feed
@@ -158,62 +133,14 @@ feed-same (b ∷ c ∷ t) h = rw (feed-same (c ∷ t) h)
 pub feed : (t : List ℕ) → (Ended t → ⊥) → (linesOf (t ++ lineFeed) ≡ linesOf t) × Ended (t ++ lineFeed)
 feed t h = (feed-same t h, last-feed t 10)
 
--- bytes without a line feed stand before the first line of what follows
-abbrev before : List ℕ → List (List ℕ) → List (List ℕ)
-before t [] = t ∷ []
-before t (l ∷ ls) = (t ++ l) ∷ ls
-
--- no line feed in a text, and none in its rest
-rest-none : (b : ℕ) (t : List ℕ) → endedOf (b ∷ t) ≡ [] → (eqb b 10 ≡ false) × (endedOf t ≡ [])
-unfolding endedOf
-rest-none b t e = by (eqb b 10) (endedOf t) e
-  where
-    by : (x : Bool) (ls : List (List ℕ)) → cond x ([] ∷ ls) (longer b ls) ≡ [] → (x ≡ false) × (ls ≡ [])
-    by true ls e = let z : _≡_ {A = ℕ} 0 1 = cc in absurd (omega arith)
-    by false [] e = (refl, refl)
-    by false (l ∷ ls) e = let z : _≡_ {A = ℕ} 0 1 = cc in absurd (omega arith)
-
-take-none : (n : ℕ) (t : List ℕ) → endedOf t ≡ [] → endedOf (take n t) ≡ []
-unfolding endedOf
-take-none zero t e = refl
-take-none (suc n) [] e = refl
-take-none (suc n) (b ∷ t) e = let r = rest-none b t e in rw (r .0, take-none n t (r .1))
-
-lines-behind : (b : ℕ) (t more : List ℕ) → endedOf (b ∷ t) ≡ [] → linesOf (b ∷ (t ++ more)) ≡ before (b ∷ t) (linesOf more)
-unfolding linesOf
-lines-behind b [] more e = by (linesOf more) refl
-  where
-    by : (ls : List (List ℕ)) → linesOf more ≡ ls → linesOf (b ∷ more) ≡ before (b ∷ []) ls
-    by [] q = rw (rest-none b [] e .0, q)
-    by (l ∷ ls) q = rw (rest-none b [] e .0, q)
-lines-behind b (c ∷ t) more e = by (linesOf more) (lines-behind c t more (rest-none b (c ∷ t) e .1))
-  where
-    by : (ls : List (List ℕ)) → linesOf (c ∷ (t ++ more)) ≡ before (c ∷ t) ls → linesOf (b ∷ c ∷ (t ++ more)) ≡ before (b ∷ c ∷ t) ls
-    by [] q = rw (rest-none b (c ∷ t) e .0, q)
-    by (l ∷ ls) q = rw (rest-none b (c ∷ t) e .0, q)
-
 -- a line that is longer than every frame's is none, so it does not count which it is
 tell-long : (s : Schedule) (l m : List ℕ) → longestLine < length l → longestLine < length m → tell s l ≡ tell s m
-unfolding tell
-tell-long s l m h k = rw (long-line l h, long-line m k)
+unfolding tellIn
+tell-long s l m h k = rw (long-line idSize l h, long-line idSize m k)
 
 pub cut : (s : Schedule) (t more : List ℕ) → endedOf t ≡ [] → tellAll s (linesOf (take (longestLine + 1) t ++ more)) ≡ tellAll s (linesOf (t ++ more))
-unfolding tellAll
-cut s [] more e = refl
-cut s (b ∷ t) more e =
-    cases (ltb longestLine (length t))
-    (λ x. rw (lines-behind b (take longestLine t) more (take-none (longestLine + 1) (b ∷ t) e), lines-behind b t more e) (same (ltb-true longestLine (length t) x) (linesOf more)))
-    (λ x. rw (take-all longestLine t (omega (arith, ltb-false longestLine (length t) x))))
-  where
-    long : longestLine < length t → (l : List ℕ) → tell s (b ∷ (take longestLine t ++ l)) ≡ tell s (b ∷ (t ++ l))
-    long h l =
-        tell-long s _ _
-        (omega (arith, length-append (take longestLine t) l, length-take-le longestLine t (omega arith)))
-        (omega (arith, length-append t l))
-
-    same : longestLine < length t → (ls : List (List ℕ)) → tellAll s (before (b ∷ take longestLine t) ls) ≡ tellAll s (before (b ∷ t) ls)
-    same h [] = rw (simp append-nil at (long h []))
-    same h (l ∷ ls) = rw (long h l)
+unfolding tellAllIn
+cut s = cut-lines (tellAll s) longestLine (λ l m ls h k. rw (tell-long s l m h k))
 
 pub gives-output : (t out : List ℕ) → Ended t → length (output t) + mostText ≤ length out
     → runOutcome (pad fresh) t out

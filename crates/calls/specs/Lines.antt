@@ -1,11 +1,10 @@
 -- A line acted on, and a run over many lines.
 use mathlib.Core.Path.{_≡_}
-use mathlib.Core.Logic.{_⊎_}
-use Prim.Native.Nat.{ℕ, suc, _+_, _-_, _<_, _≤_}
+use Prim.Native.Nat.{ℕ, suc, _+_, _-_}
 use mathlib.Core.Bool.{cond}
 use mathlib.Core.List.{List, [], _∷_, _++_}
-use lib.Dec.{leb, eqb}
-use lib.ListN.{length, getD, take, drop}
+use lib.Dec.{leb}
+use lib.ListN.{length, take, drop}
 use Rattle.rules.specs.declared.Schedule.{Schedule}
 use Rattle.rules.specs.declared.Frame.{Frame}
 use Rattle.rules.specs.declared.Line.{Line}
@@ -15,6 +14,7 @@ use Rattle.rules.specs.Sound.{sound}
 use Rattle.rules.specs.Calls.{Call, bare, setClock, list, Value, nothing, count, Outcome, numberOf, valueOf, call}
 use Rattle.rules.specs.Frames.{lineOf, frameCall}
 use Rattle.rules.specs.Printed.{tell}
+use Rattle.frame.specs.Ends.{endedOf, upTo}
 use Rattle.text.specs.Texts.{mostText}
 use Rattle.calls.specs.declared.Ran as declared
 use Rattle.calls.specs.declared.lines.NextLine.{NextLine}
@@ -40,27 +40,6 @@ decodedOutcome s Bad b = record { number = 1; value = nothing; state = s; bytes 
 -- A LINE ACTED ON
 unfoldable pub lineOutcome : Schedule → List ℕ → List ℕ → Outcome
 lineOutcome s l b = decodedOutcome s (lineOf l) b
-
--- a byte in front of the first line, if there is one
-abbrev pub longer : ℕ → List (List ℕ) → List (List ℕ)
-longer b [] = []
-longer b (l ∷ ls) = (b ∷ l) ∷ ls
-
--- the lines of a text that end with a line feed
-unfoldable pub endedOf : List ℕ → List (List ℕ)
-endedOf [] = []
-endedOf (b ∷ bs) = cond (eqb b 10) ([] ∷ endedOf bs) (longer b (endedOf bs))
-
--- how many bytes stand before the first line feed
-unfoldable pub upTo : List ℕ → ℕ
-upTo [] = 0
-upTo (b ∷ bs) = cond (eqb b 10) 0 (suc (upTo bs))
-
--- where a line that begins at `from` may end: behind it a line feed stands, unless nothing was found
-pub record LikelyEnd (text : List ℕ) (from end : ℕ) : Type 0 where
-  pub behind : from ≤ end
-  pub within : end ≤ length text
-  pub feed : (end ≡ from) ⊎ ((end < length text) × (getD text end 0 ≡ 10))
 
 -- the line that begins at `from`: where it ends, and what it stands for
 pub record IsNext (text : List ℕ) (from : ℕ) (r : NextLine) : Type 0 where

@@ -13,7 +13,8 @@ use Rattle.rules.specs.Printed.{linesOf, lineFeed, tell, tellAll, output}
 use Rattle.rules.specs.Example.{exampleInput, exampleOutput}
 use Rattle.frame.specs.Decoded.{longestLine}
 use Rattle.text.specs.Texts.{mostText}
-use Rattle.calls.specs.Lines.{endedOf, RunOutcome, runOutcome}
+use Rattle.frame.specs.Ends.{endedOf}
+use Rattle.calls.specs.Lines.{RunOutcome, runOutcome}
 
 -- what a run wrote: as many bytes as it says, from the front of the lent buffer
 abbrev pub wrote : RunOutcome → List ℕ

@@ -1,12 +1,13 @@
 // Frames acted on, and lines found in a text, on sound slots.
 ghost use mathlib.Core.Path.{_≡_};
-ghost use Prim.Native.Nat.{_+_, _≤_};
+ghost use Prim.Native.Nat.{_≤_};
 ghost use mathlib.Core.Bool.{true};
-ghost use lib.ListN.{length, drop};
+ghost use lib.ListN.{length};
 ghost use Rattle.rules.specs.Sound.{sound};
+ghost use Rattle.frame.specs.Ends.{endedOf};
 ghost use Rattle.calls.specs.Slots.{scheduleOf, Lent};
 ghost use Rattle.calls.specs.Says.{ActsOn, CanSay, Says};
-ghost use Rattle.calls.specs.Lines.{endedOf, upTo, LikelyEnd, IsNext, runs, ranOf, ranInto};
+ghost use Rattle.calls.specs.Lines.{IsNext, runs, ranOf, ranInto};
 use crate::Acted;
 use crate::Ran;
 use crate::events;
@@ -18,6 +19,7 @@ use crate::held::Rows;
 use crate::held::Slots;
 use crate::programs;
 use crate::reading;
+use frame::Width;
 use rules::Answer;
 use rules::Frame;
 use rules::Line;
@@ -42,36 +44,6 @@ fn act_on(d: Head, slots: &mut Slots, f: Frame, rows: &mut Rows) -> Acted
     }
 }
 
-// Frames and image. Where the line that begins at `from` ends: at its line feed, or where the text ends.
-fn end_of(text: &[u8], from: usize) -> usize
-    requires { ⌜ from ≤ length (now text) ⌝ }
-    ensures { λ r. ⌜ r ≡ from + upTo (drop from (now (text .entry))) ⌝ }
-{
-    let mut i = from;
-    while i < text.len() {
-        if text[i] == b'\n' {
-            return i;
-        }
-        i += 1;
-    }
-    i
-}
-
-// Frames and image. Where the line that begins at `from` ends if it is a frame's, whose kind tells how long it is; `from` if no line feed stands there.
-fn likely_end(text: &[u8], from: usize) -> usize
-    requires { ⌜ from ≤ length (now text) ⌝ }
-    ensures { λ r. ⌜ LikelyEnd (now (text .entry)) from r ⌝ }
-{
-    let n = frame::length_by_kind(&text[from..]);
-    if n < text.len() - from {
-        let end = from + n;
-        if text[end] == b'\n' {
-            return end;
-        }
-    }
-    from
-}
-
 // A line of a text: where it ends, and what it stands for.
 struct NextLine {
     end: usize,
@@ -83,7 +55,7 @@ fn next_line(text: &[u8], from: usize) -> NextLine
     requires { ⌜ from ≤ length (now text) ⌝ }
     ensures { λ r. ⌜ IsNext (now (text .entry)) from r ⌝ }
 {
-    let likely = likely_end(text, from);
+    let likely = from + frame::likely_end(Width::Long, &text[from..]);
     let decoded = frame::decode(&text[from..likely]);
     if let Line::Good(_) = decoded {
         return NextLine {
@@ -91,7 +63,7 @@ fn next_line(text: &[u8], from: usize) -> NextLine
             line: decoded,
         };
     }
-    let end = end_of(text, from);
+    let end = from + frame::line_end(&text[from..]);
     let line = frame::decode(&text[from..end]);
     NextLine { end, line }
 }

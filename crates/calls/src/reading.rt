@@ -64,7 +64,7 @@ pub(crate) fn set_clock(s: Schedule, reading: u64, buffer: &mut [u8]) -> Answere
     if buffer.len() < rules::ROW_SIZE * n {
         return refused(s, 13);
     }
-    octets::copy(buffer, &rows, rules::ROW_SIZE * n);
+    octets::copy(buffer, 0, &rows, rules::ROW_SIZE * n);
     let head = passed.head;
     Answered {
         answer: Answer::Count(n),

@@ -10,6 +10,7 @@ use lib.ListN.{length, getD}
 use Rattle.rules.specs.Frames.{digit, paired, unhex}
 use Rattle.rules.proofs.Numbers.{Bytes}
 use Rattle.rules.proofs.Tests.{each-true}
+use Rattle.frame.specs.Decoded.{allDigits}
 use Rattle.frame.specs.Encoded.{hex, hexed}
 
 pub digit-low : (c : ℕ) → 48 ≤ c → c ≤ 57 → digit c ≡ c - 48
@@ -35,7 +36,7 @@ digit-hex d h = go (ltb d 10) refl
     go true p = let l = ltb-true d 10 p in rw (hex-low d l, digit-low (d + 48) (omega arith) (omega arith)) (omega arith)
     go false p = let l = ltb-false d 10 p in rw (hex-high d l, digit-high (d + 55) (omega arith) (omega arith)) (omega arith)
 
-hex-digit : (c : ℕ) → digit c < 16 → hex (digit c) ≡ c
+pub hex-digit : (c : ℕ) → digit c < 16 → hex (digit c) ≡ c
 unfolding digit
 hex-digit c h = go (leb 48 c && leb c 57) (leb 65 c && leb c 70) refl refl
   where
@@ -77,7 +78,7 @@ unhex-hexed (x ∷ xs) s =
     rw (digit-hex (x / 16) (omega arith), digit-hex (x % 16) (omega arith), e, unhex-hexed xs (s .1))
 
 -- what a line of pairs says of its first two bytes and of the rest
-paired-more : (x y : ℕ) (l : List ℕ) → paired (x ∷ y ∷ l) ≡ true → (digit x < 16) × (digit y < 16) × (paired l ≡ true)
+pub paired-more : (x y : ℕ) (l : List ℕ) → paired (x ∷ y ∷ l) ≡ true → (digit x < 16) × (digit y < 16) × (paired l ≡ true)
 unfolding paired
 paired-more x y l p =
     let t = each-true (ltb (digit x) 16) (ltb (digit y) 16 && paired l) p in
@@ -130,3 +131,12 @@ unfolding unhex
 no-pair [] h = refl
 no-pair (x ∷ []) h = refl
 no-pair (x ∷ y ∷ l) h = absurd (omega arith)
+
+-- a line of an even number of bytes is pairs of digits if all are digits
+pub paired-all : (n : ℕ) (l : List ℕ) → length l ≡ 2 * n → paired l ≡ allDigits l
+unfolding paired
+paired-all zero [] h = refl
+paired-all zero (x ∷ l) h = absurd (omega arith)
+paired-all (suc n) [] h = absurd (omega arith)
+paired-all (suc n) (x ∷ []) h = absurd (omega arith)
+paired-all (suc n) (x ∷ y ∷ l) h = rw (paired-all n l (omega arith))

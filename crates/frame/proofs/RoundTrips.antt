@@ -17,13 +17,13 @@ use Rattle.rules.specs.declared.Frame.the-variants as frame
 use Rattle.rules.specs.declared.Line.the-variants.{Good, Bad}
 use Rattle.rules.specs.Records.{idSize, idNumber, idOf, IdFits}
 use Rattle.rules.specs.Bytes.{big, read, idAt, eventSize, eventAt, eventBytes}
-use Rattle.rules.specs.Frames.{eventFrame, idFrame, programFrame, paired, unhex, isFrame, frameOf, lineOf}
+use Rattle.rules.specs.Frames.{eventFrame, idFrame, programFrame, paired, unhex, isFrame, frameOf, frameIn, lineOf, lineIn}
 use Rattle.rules.proofs.IdLaws.{number-id, id-number, id-below}
 use Rattle.rules.proofs.Numbers.{Bytes, read-big, piece}
 use Rattle.rules.proofs.Entries.{FitsEvent, event-of-bytes, event-drop, event-piece}
 use Rattle.rules.proofs.Ranges.{Owned}
 use Rattle.rules.proofs.Frame as frames
-use Rattle.frame.specs.Decoded.{sizeOf, frameAs}
+use Rattle.frame.specs.Decoded.{sizeOf, sizeIn, frameAs, frameAsIn}
 use Rattle.frame.specs.Encoded.{hexed, programFields, fieldBytes, frameBytes, encoded}
 use Rattle.frame.proofs.Pairs.{Small, paired-hexed, unhex-hexed, hexed-unhex, bytes-unhex}
 use Rattle.frame.proofs.ByKind.{by-kind, frame-none, frame-by-kind}
@@ -80,7 +80,7 @@ unfolding big read
 id-of-bytes k i h = rw (read-big idSize (idNumber i) (id-below i h), id-number i h)
 
 frame-of-bytes : (f : Frame) → FitsFrame f → frameOf (frameBytes f) ≡ Good f
-unfolding frameOf isFrame frameBytes fieldBytes eventBytes big read
+unfolding frameIn isFrame frameBytes fieldBytes eventBytes big read
 frame-of-bytes (frame.Event e) h = ap (λ x. Good (frame.Event x)) (sym (event-drop 1 (1 ∷ eventBytes e)) ∙ event-of-bytes e h [])
 frame-of-bytes (frame.Cancel i) h = rw (id-of-bytes 2 i h)
 frame-of-bytes (frame.Clock t) h = rw (read-big 8 t h)
@@ -90,7 +90,7 @@ frame-of-bytes (frame.OptOut i) h = rw (id-of-bytes 6 i h)
 frame-of-bytes (frame.OptIn i) h = rw (id-of-bytes 7 i h)
 
 pub line-of-encoded : (f : Frame) → FitsFrame f → lineOf (encoded f) ≡ Good f
-unfolding lineOf encoded
+unfolding lineIn encoded
 line-of-encoded f h = let s = small-bytes f in rw (paired-hexed (frameBytes f) s, unhex-hexed (frameBytes f) s) (frame-of-bytes f h)
 
 -- bytes that are a frame are its kind and its fields
@@ -119,7 +119,7 @@ module _ (b : List ℕ) (bytes : Bytes b) where
     IsBytes k = getD b 0 0 ≡ k → length b ≡ sizeOf k → frameAs k b ≡ Good f → frameBytes f ≡ b
 
     by-fields : (k : ℕ) → IsBytes k
-    unfolding IsBytes frameAs sizeOf frameBytes fieldBytes
+    unfolding IsBytes frameAsIn sizeIn frameBytes fieldBytes
     by-fields =
         by-kind IsBytes
         (λ i n q. let g : f ≡ frame.Event (eventAt 1 b) = cc in rw g (behind 1 eventSize _ i n (of-event n)))
@@ -129,18 +129,18 @@ module _ (b : List ℕ) (bytes : Bytes b) where
         (λ i n q. let g : f ≡ frame.Ask (read 1 1 b) = cc in rw g (behind 5 1 _ i n (piece b bytes 1 1 (omega arith))))
         (λ i n q. let g : f ≡ frame.OptOut (idAt 1 b) = cc in rw g (of-id 6 i n))
         (λ i n q. let g : f ≡ frame.OptIn (idAt 1 b) = cc in rw g (of-id 7 i n))
-        (λ k none i n q. let e = frame-none k none b in let z : _≡_ {A = ℕ} 0 1 = cc in absurd (omega arith))
+        (λ k none i n q. let e = frame-none idSize k none b in let z : _≡_ {A = ℕ} 0 1 = cc in absurd (omega arith))
 
     bytes-of-frame : frameOf b ≡ Good f → frameBytes f ≡ b
     unfolding IsBytes
-    bytes-of-frame e = go (eqb (length b) (sizeOf (getD b 0 0))) refl (sym (frame-by-kind b) ∙ e)
+    bytes-of-frame e = go (eqb (length b) (sizeOf (getD b 0 0))) refl (sym (frame-by-kind idSize b) ∙ e)
       where
         go : (t : Bool) → eqb (length b) (sizeOf (getD b 0 0)) ≡ t → cond t (frameAs (getD b 0 0) b) Bad ≡ Good f → frameBytes f ≡ b
         go true p q = by-fields (getD b 0 0) refl (eqb-true (length b) (sizeOf (getD b 0 0)) p) q
         go false p q = let z : _≡_ {A = ℕ} 0 1 = cc in absurd (omega arith)
 
 pub encoded-line : (l : List ℕ) (f : Frame) → lineOf l ≡ Good f → encoded f ≡ l
-unfolding lineOf encoded
+unfolding lineIn encoded
 encoded-line l f e = go (paired l) refl e
   where
     go : (t : Bool) → paired l ≡ t → cond t (frameOf (unhex l)) Bad ≡ Good f → hexed (frameBytes f) ≡ l

@@ -10,11 +10,12 @@ use lib.Seq.{take-suc, take-at, drop-drop, length-take-le, sets-eq}
 use Rattle.rules.specs.declared.Frame.{Frame}
 use Rattle.rules.specs.declared.Frame.the-variants as frame
 use Rattle.rules.specs.Lists.{over, overAt}
+use Rattle.rules.specs.Records.{idSize}
 use Rattle.rules.specs.Bytes.{big, eventBytes}
 use Rattle.rules.specs.Frames.{eventFrame}
 use Rattle.octets.specs.Octets.{putAt}
 use Rattle.octets.proofs.Writes.{Wrote, wrote-none, same-size, also, then}
-use Rattle.frame.specs.Decoded.{sizeOf}
+use Rattle.frame.specs.Decoded.{sizeOf, sizeIn}
 use Rattle.frame.specs.Encoded.{hex, hexed, kindOf, fieldBytes, frameBytes, encoded, encodedInto}
 use Rattle.frame.proofs.Pairs.{hexed-append, length-hexed}
 use Rattle.frame.proofs.ByKind.{size-bound}
@@ -32,7 +33,7 @@ one-pair {old} {new} b i h k w =
 
 -- a frame's size, and its line in a buffer
 size-of-frame : (f : Frame) → length (frameBytes f) ≡ sizeOf (kindOf f)
-unfolding frameBytes fieldBytes eventBytes big sizeOf
+unfolding frameBytes fieldBytes eventBytes big sizeIn
 size-of-frame (frame.Event e) = refl
 size-of-frame (frame.Cancel i) = refl
 size-of-frame (frame.Clock t) = refl
@@ -57,7 +58,7 @@ pub frame-stands : (f : Frame) (l : List ℕ) → length l ≡ eventFrame → {m
 unfolding frameBytes
 frame-stands f l h {m} {n} p q =
     let size = size-of-frame f in
-    let bound = size-bound (kindOf f) in
+    let bound = size-bound idSize (kindOf f) in
     let kind : Wrote l 0 (kindOf f ∷ []) m = rw kind-byte at (then (wrote-none l 0 (omega arith)) 0 refl 1 (kindOf f) (omega arith) p) in
     let all = also kind 1 refl (fieldBytes f) (omega arith) q in
     rw (all .is) (take-at (frameBytes f) _ (sizeOf (kindOf f)) size)

@@ -1,10 +1,11 @@
 // Pairs of upper-case hexadecimal digits, read and written.
 ghost use mathlib.Core.Path.{_≡_};
 ghost use Prim.Native.Nat.{_<_};
+ghost use lib.Dec.{ltb};
 ghost use lib.ListN.{take, getD};
 ghost use Rattle.rules.specs.Lists.{over};
 ghost use Rattle.rules.specs.Frames.{digit, unhex};
-ghost use Rattle.frame.specs.Decoded.{worth, Table, LineOfPairs, Unhexed};
+ghost use Rattle.frame.specs.Decoded.{worth, allDigits, Table, LineOfPairs, Unhexed};
 ghost use Rattle.frame.specs.Encoded.{hex, hexed, PairsFit};
 use crate::LONGEST;
 
@@ -27,6 +28,30 @@ pub(crate) fn first(line: &[u8]) -> u16
         return 0;
     }
     16 * nibble(line[0]) as u16 + nibble(line[1]) as u16
+}
+
+// Whether a byte is a digit.
+fn is_digit(c: u8) -> bool
+    ensures { λ r. ⌜ r ≡ ltb (digit c) 16 ⌝ }
+{
+    match c {
+        b'0'..=b'9' => true,
+        b'A'..=b'F' => true,
+        _ => false,
+    }
+}
+
+// Whether every byte is a digit. The loop does not stop at one that is none, so that it can take many bytes at once.
+pub(crate) fn are_digits(line: &[u8]) -> bool
+    ensures { λ r. ⌜ r ≡ allDigits (now (line .entry)) ⌝ }
+{
+    let mut all = true;
+    let mut i = 0;
+    while i < line.len() {
+        all = all & is_digit(line[i]);
+        i += 1;
+    }
+    all
 }
 
 // What each byte stands for as a digit, 256 where it is none: '0' to '9' are the bytes from 48 on, 'A' to 'F' those from 65 on.

@@ -4,8 +4,9 @@ ghost use Prim.Native.Nat.{_*_, _<_};
 ghost use lib.ListN.{length, getD};
 ghost use Rattle.rules.specs.declared.Frame.{Frame};
 ghost use Rattle.rules.specs.declared.Line.the-variants.{Good, Bad};
-ghost use Rattle.rules.specs.Frames.{unhex, lineOf};
-ghost use Rattle.frame.specs.Decoded.{sizeOf, longestLine};
+ghost use Rattle.rules.specs.Frames.{unhex, lineIn, lineOf};
+ghost use Rattle.frame.specs.Decoded.{widthOf, shapeOf, sizeIn, longestLine};
+ghost use Rattle.frame.specs.Ends.{upTo, LikelyEnd};
 ghost use Rattle.frame.specs.Encoded.{encoded, encodedInto, kindOf};
 
 mod digits;
@@ -16,11 +17,17 @@ use rules::Frame;
 use rules::Id;
 use rules::Line;
 
-// Frames and image. Bytes of each kind of frame: the kind, and then the fields. An event's frame is the longest.
-const EVENT_FRAME: usize = 1 + Event::SIZE;
+// Document 02, #105. The width of the ids in frames: 64 bits in recorded lines, 128 bits in those of the calls.
+pub enum Width {
+    Short,
+    Long,
+}
+
+// Frames and image. Bytes of each kind of frame: the kind, and then the fields; of those with an id all but the id. An event's frame is the longest.
+const EVENT_FRAME: usize = 1 + Event::SIZE - Id::SIZE;
 
 // A cancellation's, and document 02, #102: an opt-out's and an opt-in's.
-const ID_FRAME: usize = 1 + Id::SIZE;
+const ID_FRAME: usize = 1;
 
 const CLOCK_FRAME: usize = 9;
 
@@ -28,32 +35,93 @@ const PROGRAM_FRAME: usize = 7;
 
 const ASK_FRAME: usize = 2;
 
-const LONGEST: usize = EVENT_FRAME;
+const LONGEST: usize = EVENT_FRAME + Id::SIZE;
 
 // Frames and image. The longest line of a frame.
 pub const LONGEST_LINE: usize = 2 * LONGEST;
 
-// Frames and image. How many bytes a frame of a kind has, 0 for a number that is no kind.
-fn size_of(kind: u16) -> usize
-    ensures { λ r. ⌜ r ≡ sizeOf kind ⌝ }
+// Document 02, #105. How many bytes an id has.
+fn bytes_of(width: Width) -> usize
+    ensures { λ r. ⌜ r ≡ widthOf width ⌝ }
 {
+    match width {
+        Width::Short => Id::HALF,
+        Width::Long => Id::SIZE,
+    }
+}
+
+// Frames and image. How many bytes a frame of a kind has, 0 for a number that is no kind.
+fn size_of(width: Width, kind: u16) -> usize
+    ensures { λ r. ⌜ r ≡ sizeIn (widthOf width) kind ⌝ }
+{
+    let id = bytes_of(width);
     match kind {
-        1 => EVENT_FRAME,
-        2 => ID_FRAME,
+        1 => EVENT_FRAME + id,
+        2 => ID_FRAME + id,
         3 => CLOCK_FRAME,
         4 => PROGRAM_FRAME,
         5 => ASK_FRAME,
-        6 => ID_FRAME,
-        7 => ID_FRAME,
+        6 => ID_FRAME + id,
+        7 => ID_FRAME + id,
         _ => 0,
     }
 }
 
-// Frames and image. How long the line of a frame is that begins like this one: its first pair is the kind; 0 if that is none.
-pub fn length_by_kind(line: &[u8]) -> usize
-    ensures { λ r. ⌜ r ≡ 2 * sizeOf (getD (unhex (now (line .entry))) 0 0) ⌝ }
+// Frames and image. Where the first line of a text ends: at its line feed, or where the text ends.
+pub fn line_end(text: &[u8]) -> usize
+    ensures { λ r. ⌜ r ≡ upTo (now (text .entry)) ⌝ }
 {
-    2 * size_of(digits::first(line))
+    let mut i = 0;
+    while i < text.len() {
+        if text[i] == b'\n' {
+            return i;
+        }
+        i += 1;
+    }
+    i
+}
+
+// Frames and image. Where the first line of a text ends if it is a frame's, whose kind tells how long it is; 0 if no line feed stands there.
+pub fn likely_end(width: Width, text: &[u8]) -> usize
+    ensures { λ r. ⌜ LikelyEnd (widthOf width) (now (text .entry)) r ⌝ }
+{
+    let end = 2 * size_of(width, digits::first(text));
+    if end < text.len() {
+        if text[end] == b'\n' {
+            return end;
+        }
+    }
+    0
+}
+
+// What a line is: no frame, a frame without an id, or one with an id.
+pub enum Shape {
+    NoFrame,
+    WithoutId,
+    WithId,
+}
+
+// Document 02, #105. Whether a line is a frame, whatever its fields say, and whether it has an id.
+pub fn shape_of(width: Width, line: &[u8]) -> Shape
+    ensures { λ r. ⌜ r ≡ shapeOf (lineIn (widthOf width) (now (line .entry))) ⌝ }
+{
+    let kind = digits::first(line);
+    let size = size_of(width, kind);
+    if size == 0 {
+        return Shape::NoFrame;
+    }
+    if 2 * size != line.len() {
+        return Shape::NoFrame;
+    }
+    if !digits::are_digits(line) {
+        return Shape::NoFrame;
+    }
+    match kind {
+        3 => Shape::WithoutId,
+        4 => Shape::WithoutId,
+        5 => Shape::WithoutId,
+        _ => Shape::WithId,
+    }
 }
 
 // Frames and image. The frame that a line stands for. Its first pair is the kind, which tells how long it has to be.
@@ -61,7 +129,7 @@ pub fn decode(line: &[u8]) -> Line
     ensures { λ r. ⌜ r ≡ lineOf (now (line .entry)) ⌝ }
 {
     let kind = digits::first(line);
-    let size = size_of(kind);
+    let size = size_of(Width::Long, kind);
     if line.len() != 2 * size {
         return Line::Bad;
     }
@@ -92,7 +160,7 @@ pub fn encode(f: Frame, out: &mut [u8]) -> usize
     ensures { λ r. ⌜ (r, now (out .exit)) ≡ encodedInto f (now (out .entry)) ⌝ }
 {
     let kind = kind_of(f);
-    let size = size_of(kind);
+    let size = size_of(Width::Long, kind);
     if out.len() < 2 * size {
         return 0;
     }

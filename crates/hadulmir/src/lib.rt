@@ -6,6 +6,7 @@ ghost use mathlib.Core.Path.{_≡_};
 ghost use mathlib.Core.Bool.{true, false};
 ghost use mathlib.Core.List.{[]};
 ghost use Rattle.rules.specs.Records.{halves, eventOf};
+ghost use Rattle.rules.specs.Converted.{lengthened, shortened, turnedInto, faceLine};
 ghost use Rattle.rules.specs.Face.{addsProgram, delivers, cancels, chooses, setsClock, asks, lists, face, faceFresh};
 ghost use Rattle.hadulmir.specs.Outcomes.{loadOutcome, storeOutcome, faceOf};
 
@@ -227,4 +228,20 @@ pub extern "C" fn hadulmir_list(image: &[u8], records: &mut [u8]) -> u32
         i += 1;
     }
     n as u32
+}
+
+// Document 02, #105. A recorded line's ids of 64 bits become ids of 128 bits, over the front of `out`. No image takes part.
+#[no_mangle]
+pub extern "C" fn hadulmir_lengthen(line: &[u8], out: &mut [u8]) -> u32
+    ensures { λ r. ⌜ (r, now (out .exit)) ≡ faceLine (turnedInto (lengthened (now (line .entry))) (now (out .entry))) ⌝ }
+{
+    answers::returned(convert::lengthen(line, out))
+}
+
+// Document 02, #105. The way back.
+#[no_mangle]
+pub extern "C" fn hadulmir_shorten(line: &[u8], out: &mut [u8]) -> u32
+    ensures { λ r. ⌜ (r, now (out .exit)) ≡ faceLine (turnedInto (shortened (now (line .entry))) (now (out .entry))) ⌝ }
+{
+    answers::returned(convert::shorten(line, out))
 }

@@ -8,12 +8,13 @@ use native.Mathlib.Nat.{pow-le-pow-right}
 use borrow.Author.Tests.{le-leb, lt-leb, leb-true}
 use lib.Dec.{leb}
 use lib.ListN.{length, take}
+use lib.Seq.{length-take-le}
 use Rattle.rules.specs.declared.Event.{Event}
-use Rattle.rules.specs.Lists.{over, overAt}
+use Rattle.rules.specs.Lists.{overAt}
 use Rattle.rules.specs.Records.{idSize, idFrom, noEvent}
 use Rattle.rules.specs.Bytes.{big, read, idAt, eventSize, eventAt, eventBytes}
 use Rattle.rules.proofs.Numbers.{Bytes, read-below}
-use Rattle.rules.proofs.Copying.{over-length}
+use Rattle.rules.proofs.Over.{over-size}
 use Rattle.octets.specs.Octets.{getAt, putAt, getId, getEvent, putEvent, copied}
 
 module _ (n at : ℕ) (l : List ℕ) where
@@ -58,25 +59,25 @@ module _ (at : ℕ) (l : List ℕ) where
   unfolding putEvent
   put-event-outside e h = rw (lt-leb (at + eventSize) (length l) h)
 
-module _ (n : ℕ) (from to : List ℕ) where
-  pub copy-inside : n ≤ length from → n ≤ length to → copied n from to ≡ over (take n from) to
+module _ (at n : ℕ) (from to : List ℕ) where
+  pub copy-inside : n ≤ length from → at + n ≤ length to → copied at n from to ≡ overAt at (take n from) to
   unfolding copied
-  copy-inside g h = rw (le-leb n (length from) g, le-leb n (length to) h)
+  copy-inside g h = rw (le-leb n (length from) g, le-leb (at + n) (length to) h)
 
-  pub copy-short : length from < n → copied n from to ≡ to
+  pub copy-short : length from < n → copied at n from to ≡ to
   unfolding copied
   copy-short h = rw (lt-leb n (length from) h)
 
-  pub copy-outside : length to < n → copied n from to ≡ to
+  pub copy-outside : length to < at + n → copied at n from to ≡ to
   unfolding copied
-  copy-outside h = rw (lt-leb n (length to) h, and-false)
+  copy-outside h = rw (lt-leb (at + n) (length to) h, and-false)
 
-  pub copy-size : length (copied n from to) ≡ length to
+  pub copy-size : length (copied at n from to) ≡ length to
   unfolding copied
-  copy-size = by (leb n (length from)) (leb n (length to)) refl refl
+  copy-size = by (leb n (length from)) (leb (at + n) (length to)) refl refl
     where
-      by : (s t : Bool) → leb n (length from) ≡ s → leb n (length to) ≡ t → length (cond (s && t) (over (take n from) to) to) ≡ length to
-      by true true g h = over-length to from n (leb-true _ _ h) (leb-true _ _ g)
+      by : (s t : Bool) → leb n (length from) ≡ s → leb (at + n) (length to) ≡ t → length (cond (s && t) (overAt at (take n from) to) to) ≡ length to
+      by true true g h = over-size at (take n from) to (omega (arith, leb-true (at + n) (length to) h, length-take-le n from (leb-true n (length from) g)))
       by true false g h = refl
       by false t g h = refl
 

@@ -2,16 +2,17 @@
 use mathlib.Core.Path.{_≡_, refl, sym, ap, _∙_}
 use Prim.Native.Nat.{ℕ, zero, suc, _+_, _-_, _/_, _%_, _<_, _≤_}
 use mathlib.Core.List.{List, [], _∷_, _++_, append-assoc}
+use native.Mathlib.Numerals.{add-one}
 use native.Mathlib.Omega.{arith}
-use lib.ListN.{length, take, drop, set, length-set, length-append, take-append-drop}
-use lib.Seq.{set-split, drop-drop, take-set-le, length-take-le, drop-at}
+use lib.ListN.{length, getD, take, drop, set, length-set, length-append, take-append-drop}
+use lib.Seq.{set-split, take-suc, drop-drop, take-set-le, length-take-le, drop-at}
 use Rattle.rules.specs.declared.Event.{Event}
 use Rattle.rules.specs.Lists.{overAt}
 use Rattle.rules.specs.Bytes.{big, eventSize, eventBytes}
 use Rattle.rules.proofs.Numbers.{big-length}
 use Rattle.rules.proofs.Over.{over-none, over-then, over-size}
-use Rattle.octets.specs.Octets.{putAt, putEvent}
-use Rattle.octets.proofs.Fits.{put-inside, put-event-inside}
+use Rattle.octets.specs.Octets.{putAt, putEvent, copied}
+use Rattle.octets.proofs.Fits.{put-inside, put-event-inside, copy-inside}
 
 stored : (l : List ℕ) (k a : ℕ) → k < length l → drop k (set l k a) ≡ a ∷ drop (suc k) l
 stored l k a h = rw (set-split l k a h) (drop-at (take k l) (a ∷ drop (suc k) l) k (length-take-le k l (omega arith)))
@@ -73,5 +74,18 @@ module _ {old : List ℕ} {at : ℕ} {vs new : List ℕ} (w : Wrote old at vs ne
   pub then : (n x : ℕ) → next + n ≤ length old → m ≡ putAt n next x new → Wrote old at (vs ++ big n x) m
   then n x h q = also (big n x) (omega (arith, big-length n x)) (q ∙ put-inside n next new x (omega (arith, same-size w)))
 
+  pub then-copy : (n : ℕ) (from : List ℕ) → n ≤ length from → next + n ≤ length old → m ≡ copied next n from new → Wrote old at (vs ++ take n from) m
+  then-copy n from g h q = also (take n from) (omega (arith, length-take-le n from g)) (q ∙ copy-inside next n from new g (omega (arith, same-size w)))
+
   pub then-event : (v : Event) → next + eventSize ≤ length old → m ≡ putEvent next v new → Wrote old at (vs ++ eventBytes v) m
   then-event v h q = also (eventBytes v) (omega (arith, event-size v)) (q ∙ put-event-inside next new v (omega (arith, same-size w)))
+
+-- the first i bytes of another list, and one more
+pub copied-one : {old new : List ℕ} {at : ℕ} (from : List ℕ) (i : ℕ) → i < length from → at + i < length old → Wrote old at (take i from) new
+    → Wrote old at (take (i + 1) from) (set new (at + i) (getD from i 0))
+copied-one {old} {new} {at} from i l h w =
+    let x = getD from i 0 in
+    let n : length (take i from) ≡ i = length-take-le i from (omega arith) in
+    let behind : suc (at + i) ≡ at + i + 1 = omega arith in
+    let one : set new (at + i) x ≡ overAt (at + i) (x ∷ []) new = set-split new (at + i) x (omega (arith, same-size w)) ∙ rw (drop-drop, behind) in
+    rw (add-one i, take-suc from i 0 l) (also w (at + i) (omega (arith, n)) (x ∷ []) (omega arith) one)

@@ -6,7 +6,7 @@ use lib.Dec.{leb}
 use lib.ListN.{length, take}
 use Rattle.rules.specs.declared.Id.{Id}
 use Rattle.rules.specs.declared.Event.{Event}
-use Rattle.rules.specs.Lists.{over, overAt}
+use Rattle.rules.specs.Lists.{overAt}
 use Rattle.rules.specs.Records.{idSize, idFrom, noEvent}
 use Rattle.rules.specs.Bytes.{big, read, idAt, eventSize, eventAt, eventBytes}
 
@@ -34,6 +34,6 @@ putEvent at e l = cond (leb (at + eventSize) (length l)) (overAt at (eventBytes 
 abbrev pub fourBytes : (n w x y z : ℕ) → List ℕ
 fourBytes n w x y z = big n w ++ (big n x ++ (big n y ++ big n z))
 
--- the first n bytes of `from` over the front of `to`, if each has that many
-unfoldable pub copied : ℕ → List ℕ → List ℕ → List ℕ
-copied n from to = cond (leb n (length from) && leb n (length to)) (over (take n from) to) to
+-- the first n bytes of `from` over what stands in `to` from `at` on, if there are so many and room for them
+unfoldable pub copied : ℕ → ℕ → List ℕ → List ℕ → List ℕ
+copied at n from to = cond (leb n (length from) && leb (at + n) (length to)) (overAt at (take n from) to) to

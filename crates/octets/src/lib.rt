@@ -1,5 +1,7 @@
 // Bytes in a slice: numbers, the most significant byte first, ids, events, and copies. Each function takes every place and every width.
 ghost use mathlib.Core.Path.{_≡_};
+ghost use Prim.Native.Nat.{_+_};
+ghost use lib.Dec.{leb};
 ghost use Rattle.rules.specs.Records.{idSize, idNumber};
 ghost use Rattle.octets.specs.Octets.{getAt, putAt, getId, getEvent, putEvent, copied};
 
@@ -26,6 +28,19 @@ const RANDOMIZE_DURATION: usize = Id::SIZE + 19;
 const START_DRAW: usize = Id::SIZE + 21;
 
 const DURATION_DRAW: usize = Id::SIZE + 23;
+
+// Whether there is room for n bytes from `at` on in a slice of a length. The sum is not made, so that it cannot wrap.
+pub fn has_room(length: usize, at: usize, n: usize) -> bool
+    ensures { λ r. ⌜ r ≡ leb (at + n) length ⌝ }
+{
+    if length < n {
+        return false;
+    }
+    if length - n < at {
+        return false;
+    }
+    true
+}
 
 // The number in the n bytes from `at`; 0 if they are more than 8 or not all there.
 pub fn get(b: &[u8], at: usize, n: usize) -> u64
@@ -166,9 +181,9 @@ pub fn put_event(out: &mut [u8], at: usize, e: Event)
     );
 }
 
-// Copies the first n bytes of `from` over the front of `to`; leaves `to` alone if either has fewer.
-pub fn copy(to: &mut [u8], from: &[u8], n: usize)
-    ensures { λ _. ⌜ now (to .exit) ≡ copied n (now (from .entry)) (now (to .entry)) ⌝ }
+// Copies the first n bytes of `from` to `to`, from `at` on; leaves `to` alone if there are fewer or there is no room for them.
+pub fn copy(to: &mut [u8], at: usize, from: &[u8], n: usize)
+    ensures { λ _. ⌜ now (to .exit) ≡ copied at n (now (from .entry)) (now (to .entry)) ⌝ }
 {
     if from.len() < n {
         return;
@@ -176,9 +191,12 @@ pub fn copy(to: &mut [u8], from: &[u8], n: usize)
     if to.len() < n {
         return;
     }
+    if to.len() - n < at {
+        return;
+    }
     let mut i = 0;
     while i < n {
-        to[i] = from[i];
+        to[at + i] = from[i];
         i += 1;
     }
 }

@@ -13,7 +13,7 @@ use Rattle.rules.specs.declared.Entry.{Entry}
 use Rattle.rules.specs.declared.Choice.{Choice}
 use Rattle.rules.specs.declared.Record.{Record}
 use Rattle.rules.specs.Records.{idSize, idOf, IdFits, has, noEntry}
-use Rattle.rules.specs.Bytes.{big, read, eventAt, eventBytes, entryAt, entryBytes, recordBytes, flag, choiceByte, choiceOf, eventSize, entrySize, markAt, choiceAt, recordSize}
+use Rattle.rules.specs.Bytes.{big, read, eventAt, eventIn, eventBytes, entryAt, entryBytes, recordBytes, flag, choiceByte, choiceOf, eventSize, entrySize, markAt, choiceAt, recordSize}
 use Rattle.rules.specs.Image.{marked}
 use Rattle.rules.proofs.Tests.{each-true}
 use Rattle.rules.proofs.IdLaws.{number-id, id-number, id-below, from-fits}
@@ -51,7 +51,7 @@ record-size r = refl
 
 -- an event's bytes are that event, whatever follows
 pub event-of-bytes : (e : Event) → FitsEvent e → (r : List ℕ) → eventAt 0 (eventBytes e ++ r) ≡ e
-unfolding eventAt eventBytes read big
+unfolding eventIn eventBytes read big
 event-of-bytes e f r =
     rw (
       read-big idSize (idOf e) (id-below (e .id) (f .id)),
@@ -121,7 +121,7 @@ entry-of-bytes h f r =
 
 -- an event, and an entry, further on
 pub event-drop : (at : ℕ) (l : List ℕ) → eventAt 0 (drop at l) ≡ eventAt at l
-unfolding eventAt
+unfolding eventIn
 event-drop at l = let z : at + 0 ≡ at = omega arith in simp (read-drop, z)
 
 pub entry-drop : (at : ℕ) (l : List ℕ) → entryAt 0 (drop at l) ≡ entryAt at l
@@ -142,7 +142,7 @@ entryMarks at l = leb (read 1 (at + markAt) l) 1 && leb (read 1 (at + choiceAt) 
 module _ (l : List ℕ) (b : Bytes l) where
   -- bytes are those of the event that they are
   pub event-piece : eventSize ≤ length l → eventBytes (eventAt 0 l) ++ drop eventSize l ≡ l
-  unfolding eventAt eventBytes
+  unfolding eventIn eventBytes
   event-piece h =
       simp (append-assoc, number-id (read idSize 0 l))
       (rw (

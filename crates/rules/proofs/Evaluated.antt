@@ -5,16 +5,16 @@ use mathlib.Core.Bool.{true, false}
 use mathlib.Core.List.{List, [], _∷_}
 use lib.Dec.{eqb}
 use borrow.Author.Tests.{eqb-true, eq-eqb}
-use Rattle.rules.specs.Records.{idNumber, idFrom, usable, has, cut, join, fresh, pad}
+use Rattle.rules.specs.Records.{idSize, idNumber, idFrom, usable, has, cut, join, fresh, pad}
 use Rattle.rules.specs.Period.{drawnStart, effectiveEnd, effectiveStart, earliestStart}
 use Rattle.rules.specs.Holding.{key, better, claim, taken, heldAt, holdingAt}
 use Rattle.rules.specs.Rows.{endCode, codeAt, rowsWith, rowsFrom, rowsAt}
 use Rattle.rules.specs.Moments.{entriesFrom, second, advance}
-use Rattle.rules.specs.Bytes.{big, read, flat, rowBytes, eventAt}
+use Rattle.rules.specs.Bytes.{big, read, flat, rowBytes, eventIn}
 use Rattle.rules.specs.Sound.{outOfRange, malformed, sameEvent}
 use Rattle.rules.specs.Refusals.{find, late, programChecks, eventChecks, heldChecks, clockChecks, askChecks, listChecks}
 use Rattle.rules.specs.Calls.{bestDefault, holderIn, answerFor, does, checks}
-use Rattle.rules.specs.Frames.{digit, paired, unhex, isFrame, frameOf, lineOf}
+use Rattle.rules.specs.Frames.{digit, paired, unhex, isFrame, frameIn, lineIn}
 use Rattle.rules.specs.Printed.{linesOf, decimal, rowsText, output}
 use Rattle.rules.specs.Marks.{same, replies, caseHolds, allHold, edgesHold}
 use Rattle.rules.specs.Table.{table}
@@ -47,8 +47,8 @@ edges-evaluate = refl
 pub edges-hold : edgesHold (replies (pad fresh)) edges ≡ true
 edges-hold = ap (λ see. edgesHold see edges) (sym (fun-ext (quick-replies fresh sound-fresh))) ∙ edges-evaluate
 
-example-evaluates : same (quickTellAll fresh (linesOf exampleInput)) exampleOutput ≡ true
-unfolding linesOf decimal rowsText digit paired unhex isFrame frameOf lineOf read eventAt exampleInput exampleOutput quickTellAll quickTellFrame quickCall quickChecks quickDoes jumps nextMoment idleFor advance second entriesFrom rowsAt rowsFrom rowsWith endCode codeAt holdingAt heldAt taken claim better key drawnStart effectiveEnd effectiveStart usable has cut join big flat rowBytes outOfRange malformed sameEvent find late programChecks eventChecks heldChecks clockChecks askChecks listChecks bestDefault holderIn answerFor does checks idNumber idFrom
+example-evaluates : same (quickTellAll idSize fresh (linesOf exampleInput)) exampleOutput ≡ true
+unfolding linesOf decimal rowsText digit paired unhex isFrame frameIn lineIn read eventIn exampleInput exampleOutput quickTellAll quickTellFrame quickCall quickChecks quickDoes jumps nextMoment idleFor advance second entriesFrom rowsAt rowsFrom rowsWith endCode codeAt holdingAt heldAt taken claim better key drawnStart effectiveEnd effectiveStart usable has cut join big flat rowBytes outOfRange malformed sameEvent find late programChecks eventChecks heldChecks clockChecks askChecks listChecks bestDefault holderIn answerFor does checks idNumber idFrom
 example-evaluates = refl
 
 pub same-lists : (xs ys : List ℕ) → same xs ys ≡ true → xs ≡ ys
@@ -62,4 +62,4 @@ same-self [] = refl
 same-self (x ∷ xs) = rw (eq-eqb x x refl) (same-self xs)
 
 pub worked-example : output exampleInput ≡ exampleOutput
-worked-example = sym (quick-tell fresh sound-fresh (linesOf exampleInput)) ∙ same-lists (quickTellAll fresh (linesOf exampleInput)) exampleOutput example-evaluates
+worked-example = sym (quick-tell idSize fresh sound-fresh (linesOf exampleInput)) ∙ same-lists (quickTellAll idSize fresh (linesOf exampleInput)) exampleOutput example-evaluates

@@ -12,7 +12,7 @@ use Rattle.rules.specs.Period.{drawnStart, effectiveEnd, effectiveStart,
 use Rattle.rules.specs.Holding.{key, better, claim, taken, heldAt, holdingAt}
 use Rattle.rules.specs.Rows.{endCode, codeAt, rowsWith, rowsFrom, rowsAt}
 use Rattle.rules.specs.Moments.{entriesFrom, second, advance}
-use Rattle.rules.specs.Bytes.{big, read, flat, many, rowBytes, eventAt, eventBytes, entryBytes, entryAt, recordBytes}
+use Rattle.rules.specs.Bytes.{big, read, flat, many, rowBytes, eventIn, eventBytes, entryBytes, entryAt, recordBytes}
 use Rattle.rules.specs.Sound.{outOfRange, malformed, sameEvent, whole, withinLimits, sound}
 use Rattle.rules.specs.Refusals.{_if_, firstOf, find, late, programChecks, eventChecks, heldChecks, clockChecks, askChecks, listChecks}
 use Rattle.rules.specs.Calls.{Call, Outcome, call, run, bestDefault, holderIn, answerFor, does, checks}
@@ -80,5 +80,5 @@ faces-hold c m =
     parts l = each-true (eqb (quickFace l c .returned) (c .returned)) (same (quickFace l c .lent) (c .after)) (each-all (shows l) faceTable (faces-evaluate l) c m)
 
 pub no-image-evaluates : noImage ≡ true
-unfolding noImage face faceFresh read many programFrom eventAt entryAt loaded marked formed imaged whole withinLimits sound image programBytes entryBytes eventBytes big flat idNumber idFrom
+unfolding noImage face faceFresh read many programFrom eventIn entryAt loaded marked formed imaged whole withinLimits sound image programBytes entryBytes eventBytes big flat idNumber idFrom
 no-image-evaluates = refl

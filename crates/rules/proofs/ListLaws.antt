@@ -1,12 +1,13 @@
 -- Laws of lists: what is kept, where a thing is put, membership, and that ascending lists with the same members are equal.
 use mathlib.Core.Path.{_≡_, refl, sym, ap, ap₂, _∙_, subst}
 use mathlib.Core.Logic.{_⊎_, inl, inr, ⊎-elim}
-use Prim.Native.Nat.{ℕ, zero, suc, _<_, _≤_}
-use mathlib.Core.Bool.{Bool, true, false, cond}
+use Prim.Native.Nat.{ℕ, zero, suc, _+_, _<_, _≤_}
+use mathlib.Core.Bool.{Bool, true, false, cond, _&&_}
 use mathlib.Core.List.{List, [], _∷_, _++_, map}
 use native.Mathlib.Omega.{arith}
 use lib.Dec.{ltb}
-use lib.ListN.{length, take, set, replicate}
+use lib.ListN.{length, getD, take, drop, set, replicate}
+use lib.Seq.{drop-cons}
 use borrow.Author.Tests.{ltb-true, ltb-false, lt-ltb}
 use Rattle.rules.specs.Lists.{keep, insert, each, pairs, In, Same, All, Pairwise}
 use Rattle.rules.proofs.Tests.{both, each-true}
@@ -263,3 +264,7 @@ module _ {A : Type 0} where
   pub replicated : (a : A) (xs : List A) → All (λ x. x ≡ a) xs → xs ≡ replicate (length xs) a
   replicated a [] h = refl
   replicated a (x ∷ xs) h = ap₂ _∷_ (h x (inl refl)) (replicated a xs (λ y m. h y (inr m)))
+
+  -- whether each from a place on passes a test: the one that stands there, and those behind it
+  pub each-more : (p : A → Bool) (d : A) (xs : List A) (i : ℕ) → i < length xs → each p (drop i xs) ≡ (p (getD xs i d) && each p (drop (i + 1) xs))
+  each-more p d xs i h = let e : i + 1 ≡ suc i = omega arith in rw (e, drop-cons xs i d h)

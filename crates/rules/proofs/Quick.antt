@@ -14,8 +14,8 @@ use Rattle.rules.specs.Records.{State, lastClock, pad}
 use Rattle.rules.specs.Moments.{Moved}
 use Rattle.rules.specs.Refusals.{Check, firstOf, clockChecks}
 use Rattle.rules.specs.Calls.{Call, bare, setClock, list, nothing, Done, Outcome, clocked, does, checks, refusal, accepted, refused, lentBytes, lentList, call}
-use Rattle.rules.specs.Frames.{lineOf, frameCall}
-use Rattle.rules.specs.Printed.{outcomeText, badText, room, Told, tellFrame, tellLine, tell, tellAll}
+use Rattle.rules.specs.Frames.{lineIn, frameCall}
+use Rattle.rules.specs.Printed.{outcomeText, badText, room, Told, tellFrame, tellLine, tellIn, tellAllIn}
 use Rattle.rules.specs.Marks.{Reply, replyOf, replies}
 use Rattle.rules.proofs.Tests.{either-false}
 use Rattle.rules.proofs.SoundState.{Sound}
@@ -122,9 +122,9 @@ abbrev quickTellLine : State → Line → QuickTold
 quickTellLine s (Good f) = quickTellFrame s f
 quickTellLine s Bad = record { state = s; text = badText }
 
-unfoldable pub quickTellAll : State → List (List ℕ) → List ℕ
-quickTellAll s [] = []
-quickTellAll s (l ∷ ls) = let o = quickTellLine s (lineOf l) in o .text ++ quickTellAll (o .state) ls
+unfoldable pub quickTellAll : (w : ℕ) → State → List (List ℕ) → List ℕ
+quickTellAll w s [] = []
+quickTellAll w s (l ∷ ls) = let o = quickTellLine s (lineIn w l) in o .text ++ quickTellAll w (o .state) ls
 
 abbrev told : QuickTold → Told
 told q = record { state = pad (q .state); text = q .text }
@@ -144,9 +144,9 @@ module _ (s : State) (v : Sound s) where
   sound-line (Good f) = sound-quick s v (frameCall f room)
   sound-line Bad = v
 
-pub quick-tell : (s : State) → Sound s → (ls : List (List ℕ)) → quickTellAll s ls ≡ tellAll (pad s) ls
-unfolding quickTellAll tellAll tell
-quick-tell s v [] = refl
-quick-tell s v (l ∷ ls) =
-    ap (λ w. quickTellLine s (lineOf l) .text ++ w) (quick-tell (quickTellLine s (lineOf l) .state) (sound-line s v (lineOf l)) ls)
-    ∙ ap (λ o. o .text ++ tellAll (o .state) ls) (sym (tell-line s v (lineOf l)))
+pub quick-tell : (w : ℕ) (s : State) → Sound s → (ls : List (List ℕ)) → quickTellAll w s ls ≡ tellAllIn w (pad s) ls
+unfolding quickTellAll tellAllIn tellIn
+quick-tell w s v [] = refl
+quick-tell w s v (l ∷ ls) =
+    ap (λ t. quickTellLine s (lineIn w l) .text ++ t) (quick-tell w (quickTellLine s (lineIn w l) .state) (sound-line s v (lineIn w l)) ls)
+    ∙ ap (λ o. o .text ++ tellAllIn w (o .state) ls) (sym (tell-line s v (lineIn w l)))

@@ -45,24 +45,33 @@ rowBytes r = big 8 (r .time) ++ (big idSize (r .id) ++ big 1 (r .code))
 abbrev pub bytes : List Row → List ℕ
 bytes rs = flat rowBytes rs
 
--- the bytes of an id
-abbrev pub idAt : ℕ → List ℕ → Id
-idAt at l = idFrom (read idSize at l)
+-- the id in w bytes, document 02, #105, since recorded lines have ids of another width; and that in the bytes of an mRID
+abbrev pub idIn : (w : ℕ) → ℕ → List ℕ → Id
+idIn w at l = idFrom (read w at l)
 
--- Frames and image, the field bytes of an event, its id before all others; how many they are
+abbrev pub idAt : ℕ → List ℕ → Id
+idAt at l = idIn idSize at l
+
+-- Frames and image, the field bytes of an event, its id of w bytes before all others; how many they are, and how many with an mRID
+abbrev pub eventSizeIn : (w : ℕ) → ℕ
+eventSizeIn w = w + 25
+
 abbrev pub eventSize : ℕ
-eventSize = idSize + 25
+eventSize = eventSizeIn idSize
 
 unfoldable pub eventBytes : Event → List ℕ
 eventBytes e =
     big idSize (idOf e) ++ (big 1 (e .program) ++ (big 4 (e .controls) ++ (big 4 (e .created) ++ (big 4 (e .start) ++ (big 4 (e .duration)
     ++ (big 2 (e .«randomize_start») ++ (big 2 (e .«randomize_duration») ++ (big 2 (e .«start_draw») ++ big 2 (e .«duration_draw»)))))))))
 
-unfoldable pub eventAt : ℕ → List ℕ → Event
-eventAt at l =
-    eventOf (read idSize at l) (read 1 (at + idSize) l) (read 4 (at + (idSize + 1)) l) (read 4 (at + (idSize + 5)) l)
-    (read 4 (at + (idSize + 9)) l) (read 4 (at + (idSize + 13)) l) (read 2 (at + (idSize + 17)) l) (read 2 (at + (idSize + 19)) l)
-    (read 2 (at + (idSize + 21)) l) (read 2 (at + (idSize + 23)) l)
+unfoldable pub eventIn : (w : ℕ) → ℕ → List ℕ → Event
+eventIn w at l =
+    eventOf (read w at l) (read 1 (at + w) l) (read 4 (at + (w + 1)) l) (read 4 (at + (w + 5)) l)
+    (read 4 (at + (w + 9)) l) (read 4 (at + (w + 13)) l) (read 2 (at + (w + 17)) l) (read 2 (at + (w + 19)) l)
+    (read 2 (at + (w + 21)) l) (read 2 (at + (w + 23)) l)
+
+abbrev pub eventAt : ℕ → List ℕ → Event
+eventAt at l = eventIn idSize at l
 
 -- a mark is a byte, 1 or 0
 abbrev pub flag : Bool → List ℕ

@@ -9,7 +9,7 @@ use Rattle.rules.specs.declared.Frame.the-variants as frame
 use Rattle.rules.specs.declared.Line.{Line}
 use Rattle.rules.specs.declared.Line.the-variants.{Good, Bad}
 use Rattle.rules.specs.Records.{idSize, idNumber}
-use Rattle.rules.specs.Bytes.{read, idAt, eventSize, eventAt}
+use Rattle.rules.specs.Bytes.{read, idIn, eventSizeIn, eventIn}
 use Rattle.rules.specs.Calls.{Call, addProgram, deliver, cancel, optOut, optIn, setClock, ask}
 
 -- what a hexadecimal digit stands for, 0 to 9 and upper-case A to F; 16 for any other byte
@@ -32,13 +32,19 @@ unhex (x ∷ y ∷ rest) = (16 * digit x + digit y) ∷ unhex rest
 unfoldable pub isFrame : ℕ → ℕ → List ℕ → Bool
 isFrame kind size b = eqb (length b) size && eqb (getD b 0 0) kind
 
--- Frames and image, the lengths of the frames: the kind, and then the fields
+-- Frames and image, the lengths of the frames: the kind, and then the fields. Document 02, #105: an id has w bytes in them; in the calls' own it is an mRID
+abbrev pub eventFrameIn : (w : ℕ) → ℕ
+eventFrameIn w = 1 + eventSizeIn w
+
 abbrev pub eventFrame : ℕ
-eventFrame = 1 + eventSize
+eventFrame = eventFrameIn idSize
 
 -- those of a cancellation, and document 02, #102: of an opt-out and an opt-in
+abbrev pub idFrameIn : (w : ℕ) → ℕ
+idFrameIn w = 1 + w
+
 abbrev pub idFrame : ℕ
-idFrame = 1 + idSize
+idFrame = idFrameIn idSize
 
 abbrev pub clockFrame : ℕ
 clockFrame = 9
@@ -50,20 +56,26 @@ abbrev pub askFrame : ℕ
 askFrame = 2
 
 -- Frames and image, the kinds with their lengths and fields: document 01's five, and document 02, #102: 06 and 07
-unfoldable pub frameOf : List ℕ → Line
-frameOf b =
-    cond (isFrame 1 eventFrame b) (Good (frame.Event (eventAt 1 b)))
-    (cond (isFrame 2 idFrame b) (Good (frame.Cancel (idAt 1 b)))
+unfoldable pub frameIn : (w : ℕ) → List ℕ → Line
+frameIn w b =
+    cond (isFrame 1 (eventFrameIn w) b) (Good (frame.Event (eventIn w 1 b)))
+    (cond (isFrame 2 (idFrameIn w) b) (Good (frame.Cancel (idIn w 1 b)))
     (cond (isFrame 3 clockFrame b) (Good (frame.Clock (read 8 1 b)))
     (cond (isFrame 4 programFrame b) (Good (frame.Program (read 1 1 b) (read 1 2 b) (read 4 3 b)))
     (cond (isFrame 5 askFrame b) (Good (frame.Ask (read 1 1 b)))
-    (cond (isFrame 6 idFrame b) (Good (frame.OptOut (idAt 1 b)))
-    (cond (isFrame 7 idFrame b) (Good (frame.OptIn (idAt 1 b)))
+    (cond (isFrame 6 (idFrameIn w) b) (Good (frame.OptOut (idIn w 1 b)))
+    (cond (isFrame 7 (idFrameIn w) b) (Good (frame.OptIn (idIn w 1 b)))
     Bad))))))
 
+abbrev pub frameOf : List ℕ → Line
+frameOf b = frameIn idSize b
+
 -- Numbers given, 1: a line that is no frame is `Bad`
-unfoldable pub lineOf : List ℕ → Line
-lineOf l = cond (paired l) (frameOf (unhex l)) Bad
+unfoldable pub lineIn : (w : ℕ) → List ℕ → Line
+lineIn w l = cond (paired l) (frameIn w (unhex l)) Bad
+
+abbrev pub lineOf : List ℕ → Line
+lineOf l = lineIn idSize l
 
 -- the call that a frame stands for; a clock reading is given a buffer
 abbrev pub frameCall : Frame → List ℕ → Call

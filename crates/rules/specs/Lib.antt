@@ -17,6 +17,7 @@ pub mod Image  -- an image of a schedule, and back
 pub mod Face  -- operations of a C host
 pub mod Frames  -- lines and frames
 pub mod Printed  -- what the program writes
+pub mod Converted  -- recorded lines turned into the long kind, and back
 pub mod Marks  -- how the tables are read
 pub mod Table  -- T1 to T12
 pub mod LineTable  -- lines and the frames that they are
@@ -29,6 +30,7 @@ pub mod ScheduleTable  -- histories and their schedules
 pub mod MomentTable  -- seconds after an accepted state
 pub mod Edges  -- numbers 3 to 14 on their edges
 pub mod Example  -- the worked example
+pub mod ConvertTable  -- recorded lines, and what they are turned into
 pub mod Clauses  -- the clauses as laws
 pub mod ChoiceTable  -- worked cases of users who opt out
 pub mod Sample  -- two lists that meet the premise of demand 3, and pairs that miss it

@@ -13,7 +13,7 @@ use Rattle.rules.specs.Ascii.{ascii}
 use Rattle.rules.specs.Records.{idSize, idNumber, idOf, fresh, pad}
 use Rattle.rules.specs.Bytes.{read, rowSize, rowsSize}
 use Rattle.rules.specs.Calls.{Governor, byEvent, byProgram, byNone, Value, nothing, code, count, governor, Outcome, call, counted}
-use Rattle.rules.specs.Frames.{lineOf, frameCall}
+use Rattle.rules.specs.Frames.{lineIn, frameCall}
 
 -- the lines of a text: a line feed ends one, and the last may lack it
 unfoldable pub linesOf : List ℕ → List (List ℕ)
@@ -120,15 +120,24 @@ abbrev pub tellLine : Schedule → Line → Told
 tellLine s (Good f) = tellFrame s f
 tellLine s Bad = record { state = s; text = badText }
 
--- one line
-unfoldable pub tell : Schedule → List ℕ → Told
-tell s l = tellLine s (lineOf l)
+-- one line; document 02, #105: with ids of w bytes, and with mRIDs
+unfoldable pub tellIn : (w : ℕ) → Schedule → List ℕ → Told
+tellIn w s l = tellLine s (lineIn w l)
+
+abbrev pub tell : Schedule → List ℕ → Told
+tell s l = tellIn idSize s l
 
 -- lines one after the other
-unfoldable pub tellAll : Schedule → List (List ℕ) → List ℕ
-tellAll s [] = []
-tellAll s (l ∷ ls) = let o = tell s l in o .text ++ tellAll (o .state) ls
+unfoldable pub tellAllIn : (w : ℕ) → Schedule → List (List ℕ) → List ℕ
+tellAllIn w s [] = []
+tellAllIn w s (l ∷ ls) = let o = tellIn w s l in o .text ++ tellAllIn w (o .state) ls
 
--- Frames and image, the program: from what it reads to what it writes
+abbrev pub tellAll : Schedule → List (List ℕ) → List ℕ
+tellAll s ls = tellAllIn idSize s ls
+
+-- Frames and image, the program: from what it reads to what it writes; and what it would write if ids had w bytes
+abbrev pub outputIn : (w : ℕ) → List ℕ → List ℕ
+outputIn w input = tellAllIn w (pad fresh) (linesOf input)
+
 abbrev pub output : List ℕ → List ℕ
-output input = tellAll (pad fresh) (linesOf input)
+output input = outputIn idSize input

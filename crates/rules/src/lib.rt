@@ -16,6 +16,7 @@ ghost use Rattle.rules.specs.Edges.{edges};
 ghost use Rattle.rules.specs.Example.{exampleInput, exampleOutput};
 ghost use Rattle.rules.specs.LineTable.{linesHold, lineTable};
 ghost use Rattle.rules.specs.TextTable.{TextTables};
+ghost use Rattle.rules.specs.ConvertTable.{ConvertTables};
 ghost use Rattle.rules.specs.CallTable.{CallTables};
 ghost use Rattle.rules.specs.ImageTable.{ImageTables};
 ghost use Rattle.rules.specs.FaceTable.{FaceTables};
@@ -313,6 +314,11 @@ pub fn lines_read()
 // Frames and image: every text that the program prints, line after line, and where a line ends.
 pub fn texts_printed()
     ensures { λ _. ⌜ TextTables ⌝ }
+{}
+
+// Document 02, #105: recorded lines and what each is turned into, lent buffers, texts, and document 01's example as it was recorded.
+pub fn lines_converted()
+    ensures { λ _. ⌜ ConvertTables ⌝ }
 {}
 
 // Frames and image: each rule of an image kept by one and broken by one, and each byte where it stands.

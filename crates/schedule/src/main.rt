@@ -1,13 +1,9 @@
 // The program `schedule`: frames from standard input, one to a line, and what document 01 has printed for each on standard output. It reads and writes in
 // large pieces, and keeps no more of its input than one buffer. What is printed for the lines in it is what `calls::run` promises.
-ghost use Prim.Native.Nat.{_<_};
-ghost use Rattle.schedule.specs.Pieces.{CanPrint, CanGoOn, Leaves, Within, KeepsLine, Rests};
+ghost use Rattle.schedule.specs.Pieces.{CanPrint, CanGoOn, Leaves, Rests};
 use libc::STDIN_FILENO;
 use libc::STDOUT_FILENO;
 use rules::Schedule;
-
-// No more bytes of a line can matter: one of so many is no frame, whatever follows.
-const KEPT: usize = frame::LONGEST_LINE + 1;
 
 // What the lines of a piece left: the schedule, how many bytes they were, and whether their texts could be written.
 struct Piece {
@@ -47,22 +43,6 @@ fn print_lines(mut s: Schedule, piece: &[u8], out: &mut [u8]) -> Piece
     }
 }
 
-// The line that has not ended yet goes to the front of the buffer, as much of it as can matter; how much that is.
-fn keep(buffer: &mut [u8], from: usize, to: usize) -> usize
-    requires { ⌜ Within from to (now buffer) ⌝ }
-    ensures { λ r. ⌜ KeepsLine from to (now (buffer .entry)) (now (buffer .exit)) r ⌝ }
-{
-    let mut n = 0;
-    while n < KEPT {
-        if from + n == to {
-            return n;
-        }
-        buffer[n] = buffer[from + n];
-        n += 1;
-    }
-    n
-}
-
 // How it goes on after a piece of input: with how much of a line, and whether at all.
 struct Rest {
     schedule: Schedule,
@@ -88,7 +68,7 @@ fn take_turn(s: Schedule, kept: usize, buffer: &mut [u8], out: &mut [u8]) -> Res
     let schedule = piece.schedule;
     Rest {
         schedule,
-        kept: keep(buffer, piece.read, to),
+        kept: input::keep(buffer, piece.read, to),
         more: piece.written,
     }
 }
@@ -104,17 +84,7 @@ fn finish(s: Schedule, kept: usize, buffer: &mut [u8], out: &mut [u8])
     }
 }
 
-fn left(turns: u64, more: bool) -> u64
-    requires { ⌜ 0 < turns ⌝ }
-    ensures { λ r. ⌜ r < turns ⌝ }
-{
-    if more {
-        return turns - 1;
-    }
-    0
-}
-
-// A proved loop has to end, and nothing says that the input does: the turns are counted down from a number that no run uses up.
+// `turns` begins with more than any run takes.
 fn main() {
     let mut buffer = io::large_buffer();
     let mut out = io::large_buffer();
@@ -126,7 +96,7 @@ fn main() {
         let next = t.schedule;
         s = next;
         kept = t.kept;
-        turns = left(turns, t.more);
+        turns = input::left(turns, t.more);
     }
     finish(s, kept, &mut buffer, &mut out);
 }

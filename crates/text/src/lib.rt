@@ -30,23 +30,11 @@ const ROW: usize = DIGITS + 1 + ID_DIGITS + 1 + DIGITS + 1;
 // Frames and image. The longest text of a line: as many rows as there can be.
 pub const MOST: usize = rules::MOST_ROWS * ROW;
 
-fn has_room(length: usize, at: usize, most: usize) -> bool
-    ensures { λ r. ⌜ r ≡ leb (at + most) length ⌝ }
-{
-    if length < most {
-        return false;
-    }
-    if length - most < at {
-        return false;
-    }
-    true
-}
-
 // Frames and image: refused n.
 pub fn refused(out: &mut [u8], at: usize, n: u8) -> usize
     ensures { λ r. ⌜ Stands (now (out .entry)) at (ifRoom mostRefused at (now (out .entry)) (refusedText n)) (now (out .exit)) r ⌝ }
 {
-    if !has_room(out.len(), at, REFUSED) {
+    if !octets::has_room(out.len(), at, REFUSED) {
         return at;
     }
     writing::refused(out, at, n)
@@ -65,7 +53,7 @@ pub fn told(out: &mut [u8], at: usize, clock: u64, f: Frame, answer: Answer, row
     if rules::MOST_ROWS < answer.count() {
         return at;
     }
-    if !has_room(out.len(), at, MOST) {
+    if !octets::has_room(out.len(), at, MOST) {
         return at;
     }
     writing::told(out, at, clock, f, answer, rows)

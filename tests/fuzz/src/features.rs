@@ -13,6 +13,7 @@ const RETURNS: usize = 128;
 const FRESH: usize = 8 * RETURNS;
 const HELD: usize = 9 * RETURNS;
 const TEXTS: usize = 10 * RETURNS;
+const TURNS: usize = 11 * RETURNS;
 
 /// What a call returned, refusals and counts included, and how many events the image then held.
 pub fn saw_call(call: &Call, returned: i32, held: u8) {
@@ -32,6 +33,11 @@ pub fn saw_call(call: &Call, returned: i32, held: u8) {
 
 pub fn saw_fresh(returned: i32) {
     saw(FRESH + place(returned));
+}
+
+/// What a call that turns a line returned; `way` is 0 or 1.
+pub fn saw_turn(way: usize, returned: i32) {
+    saw(TURNS + way * RETURNS + place(returned));
 }
 
 /// Refusals are above -16, counts below 100.

@@ -1,4 +1,4 @@
-//! What both targets share: moves read from the fuzzer's bytes, and features told to the fuzzer.
+//! What the targets share: moves read from the fuzzer's bytes, and features told to the fuzzer.
 
 pub mod features;
 pub mod moves;

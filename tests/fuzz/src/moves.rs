@@ -26,7 +26,7 @@ pub enum Move<'a> {
 
 /// The length of a lent buffer, once it is known how many bytes the call has to write.
 #[derive(Clone, Copy)]
-pub struct Room(u8);
+pub struct Room(pub u8);
 
 impl Room {
     pub const AMPLE: Room = Room(4);

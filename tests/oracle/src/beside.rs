@@ -1,6 +1,7 @@
 //! A call made on both sides, by an oracle and through C, and all that a host can see of it
 //! compared: the number returned, the image and the lent bytes, with guards around both.
 
+use crate::convert::{self, turn_into};
 use crate::frame::ID_BYTES;
 use crate::image::{IMAGE_BYTES, RECORD_BYTES};
 use crate::proved::{self, Call};
@@ -190,6 +191,58 @@ pub fn compare(before: &Seen, wanted: &Seen, found: &Seen) -> Outcome {
         same_lent("image, refused", &before.image, &found.image)?;
     }
     Ok(())
+}
+
+/// A call that turns a line, by the converter and through C.
+#[derive(Clone, Copy)]
+pub struct Turning {
+    pub name: &'static str,
+    pub by_oracle: convert::Turn,
+    pub through_c: fn(&[u8], &mut [u8]) -> i32,
+}
+
+pub const TURNINGS: [Turning; 2] = [
+    Turning {
+        name: "lengthen",
+        by_oracle: convert::lengthen,
+        through_c: proved::lengthen,
+    },
+    Turning {
+        name: "shorten",
+        by_oracle: convert::shorten,
+        through_c: proved::shorten,
+    },
+];
+
+impl Turning {
+    /// The bytes that the turned line needs; 0 if the line is refused.
+    pub fn need(&self, line: &[u8]) -> usize {
+        (self.by_oracle)(line).map_or(0, |turned| turned.len())
+    }
+
+    /// Turns the line on both sides, through C by `call`, into a buffer of so many bytes. Gives
+    /// the number.
+    pub fn compare(
+        &self,
+        dice: &mut Dice,
+        line: &[u8],
+        room: usize,
+        call: impl FnOnce(&[u8], &mut [u8]) -> i32,
+    ) -> Outcome<i32> {
+        let before = Lent::noise(dice, room);
+        let (mut wanted, mut found) = (before.clone(), before.clone());
+        let number = match turn_into(self.by_oracle, line, wanted.inside()) {
+            Ok(length) => length as i32,
+            Err(refusal) => -i32::from(refusal),
+        };
+        let returned = call(Lent::holding(dice, line).inside(), found.inside());
+        same_number(number, returned)?;
+        same_lent("turned line", &wanted, &found)?;
+        if returned < 0 {
+            same_lent("lent bytes, refused", &before, &found)?;
+        }
+        Ok(returned)
+    }
 }
 
 pub fn same_number(wanted: i32, returned: i32) -> Outcome {

@@ -2,7 +2,7 @@
 
 use crate::choice::Choice;
 use crate::event::{Event, Program};
-use crate::frame::{decode, Frame};
+use crate::frame::{decode, decode_over, Frame, Width};
 use crate::image::Record;
 
 pub const ROW_BYTES: usize = 25;
@@ -74,13 +74,18 @@ pub trait Calls {
 
     /// Runs one line, without its line feed, and prints what the program `schedule` prints.
     fn line(&mut self, bytes: &[u8], out: &mut Vec<u8>) {
-        if let Err(number) = self.act(bytes, out) {
+        self.frame(decode(bytes), out);
+    }
+
+    /// What the line of a frame prints; `None` is a line that is no frame.
+    fn frame(&mut self, frame: Option<Frame>, out: &mut Vec<u8>) {
+        if let Err(number) = self.act(frame, out) {
             print_refusal(number, out);
         }
     }
 
-    fn act(&mut self, bytes: &[u8], out: &mut Vec<u8>) -> Result<(), u8> {
-        match decode(bytes).ok_or(1)? {
+    fn act(&mut self, frame: Option<Frame>, out: &mut Vec<u8>) -> Result<(), u8> {
+        match frame.ok_or(1)? {
             Frame::Event(event) => {
                 let code = self.deliver(&event)?;
                 print_code(self.clock(), event.id, code, out);
@@ -104,6 +109,13 @@ pub trait Calls {
     fn text(&mut self, text: &[u8], out: &mut Vec<u8>) {
         for line in lines_of(text) {
             self.line(line, out);
+        }
+    }
+
+    /// The same over ids of the given width.
+    fn text_over(&mut self, width: Width, text: &[u8], out: &mut Vec<u8>) {
+        for line in lines_of(text) {
+            self.frame(decode_over(width, line), out);
         }
     }
 }

@@ -5,7 +5,7 @@ use crate::calls::Calls;
 use crate::choice::Choice;
 use crate::event::{is_usable, Event, Program, LAST_CLOCK, MOST_EVENTS};
 use crate::fast::Fast;
-use crate::frame::{encode, hex, Frame, ID_BYTES};
+use crate::frame::{decode_over, encode_over, hex, Frame, Width, ID_BYTES};
 use crate::ids;
 use crate::image::Entry;
 use crate::random::Dice;
@@ -241,8 +241,14 @@ pub fn profile_names() -> Vec<&'static str> {
 
 /// `None` if there is no such profile.
 pub fn generate(seed: u64, count: usize, profile: &str) -> Option<Vec<u8>> {
+    generate_over(Width::Long, seed, count, profile)
+}
+
+/// The same with ids of the given width.
+pub fn generate_over(width: Width, seed: u64, count: usize, profile: &str) -> Option<Vec<u8>> {
     let profiles = profiles(profile);
     let mut generator = Generator::new(seed, *profiles.first()?);
+    generator.width = width;
     generator.open();
     generator.act_until(count, &profiles);
     Some(join(&generator.lines))
@@ -297,6 +303,8 @@ pub fn idle_line(dice: &mut Dice, schedule: &Fast) -> Vec<u8> {
 
 struct Generator {
     dice: Dice,
+    /// Of the ids in lines. Wider ones are cut when a line is put.
+    width: Width,
     schedule: Fast,
     profile: Profile,
     lines: Vec<Vec<u8>>,
@@ -311,6 +319,7 @@ impl Generator {
         let missing = dice.below(8) as u8;
         Generator {
             dice,
+            width: Width::Long,
             schedule: Fast::fresh(),
             profile,
             lines: Vec::new(),
@@ -352,12 +361,13 @@ impl Generator {
     }
 
     fn put(&mut self, frame: Frame) {
-        self.put_line(encode(&frame));
+        self.put_line(encode_over(self.width, &frame));
     }
 
     fn put_line(&mut self, line: Vec<u8>) {
         self.output.clear();
-        self.schedule.line(&line, &mut self.output);
+        let frame = decode_over(self.width, &line);
+        self.schedule.frame(frame, &mut self.output);
         self.lines.push(line);
     }
 
@@ -843,7 +853,7 @@ impl Generator {
             Frame::Choice(event.id, Choice::Out),
             Frame::Choice(event.id, Choice::In),
         ];
-        encode(&self.dice.pick(&frames))
+        encode_over(self.width, &self.dice.pick(&frames))
     }
 
     fn hurt(&mut self, line: &mut Vec<u8>) {
@@ -860,16 +870,20 @@ impl Generator {
             9 => line[..2].copy_from_slice(self.dice.pick(&[b"00", b"08", b"09", b"FF"])),
             10 => line[..2].copy_from_slice(self.dice.pick(&[b"01", b"02", b"05", b"06", b"07"])),
             11 => line.clear(),
-            12 | 13 => self.shorten_id(line),
+            12 | 13 => self.change_width(line),
             _ => *line = self.noise(),
         }
     }
 
-    /// Takes bytes off the front of an id, mostly eight: a frame with an id of 64 bits.
-    fn shorten_id(&mut self, line: &mut Vec<u8>) {
+    /// Takes bytes off the front of a long id, or puts zeros before a short one. They are mostly
+    /// eight, which makes a frame of the other width.
+    fn change_width(&mut self, line: &mut Vec<u8>) {
         let bytes = self.dice.pick(&[8, 8, 8, 1, 4, 7, 9, ID_BYTES]);
         let end = line.len().min(2 + 2 * bytes);
-        line.drain(2..end);
+        match self.width {
+            Width::Long => drop(line.drain(2..end)),
+            Width::Short => drop(line.splice(2..2, b"00".repeat(bytes))),
+        }
     }
 
     fn noise(&mut self) -> Vec<u8> {

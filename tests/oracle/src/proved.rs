@@ -56,6 +56,10 @@ extern "C" {
 
     fn hadulmir_list(image: *mut u8, image_len: usize, records: *mut u8, records_len: usize)
         -> i32;
+
+    fn hadulmir_lengthen(line: *const u8, line_len: usize, out: *mut u8, out_len: usize) -> i32;
+
+    fn hadulmir_shorten(line: *const u8, line_len: usize, out: *mut u8, out_len: usize) -> i32;
 }
 
 // An id is given as two numbers, the upper half first.
@@ -142,7 +146,15 @@ pub fn list(image: &mut [u8], records: &mut [u8]) -> i32 {
     }
 }
 
-/// One of the calls. The last number of those that are lent a buffer is its length in bytes.
+pub fn lengthen(line: &[u8], out: &mut [u8]) -> i32 {
+    unsafe { hadulmir_lengthen(line.as_ptr(), line.len(), out.as_mut_ptr(), out.len()) }
+}
+
+pub fn shorten(line: &[u8], out: &mut [u8]) -> i32 {
+    unsafe { hadulmir_shorten(line.as_ptr(), line.len(), out.as_mut_ptr(), out.len()) }
+}
+
+/// One of the calls on an image. The last number of those that are lent a buffer is its length in bytes.
 #[derive(Clone, Copy, Debug)]
 pub enum Call {
     Program(u8, Program),

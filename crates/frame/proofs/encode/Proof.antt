@@ -3,6 +3,7 @@ use mathlib.Core.Path.{_≡_, refl, ap, _∙_}
 use Prim.Native.Nat.{_*_}
 use native.Mathlib.Omega.{arith}
 use borrow.Author.Needs.{needs}
+use Rattle.rules.specs.Records.{idSize}
 use Rattle.frame.specs.Decoded.{sizeOf}
 use Rattle.frame.specs.Encoded.{kindOf, encoded}
 use Rattle.frame.proofs.ByKind.{size-bound}
@@ -15,7 +16,7 @@ is-size : (sized : tie.After-size-of) → sized .size-of .result ≡ sizeOf (kin
 is-size sized = sized .size-of .ensures ∙ ap sizeOf (sized .before .kind-of .ensures)
 
 mul-if1 : tie.Need-mul-if1
-mul-if1 c = omega (arith, size-bound (c .before .kind-of .result), c .size-of .ensures)
+mul-if1 c = omega (arith, size-bound idSize (c .before .kind-of .result), c .size-of .ensures)
 
 returns : tie.Need-returns
 returns c =
@@ -27,7 +28,7 @@ put-pairs-requires c κs =
     let fields = c .before .before .before in
     let kind = fields .before .before .before in
     let room = kind .before .before in
-    record { there = omega (arith, size-bound (room .before .before .kind-of .result), room .before .size-of .ensures); room = room .if1 .left }
+    record { there = omega (arith, size-bound idSize (room .before .before .kind-of .result), room .before .size-of .ensures); room = room .if1 .left }
 
 returns-2 : tie.Need-returns-2
 unfolding encoded

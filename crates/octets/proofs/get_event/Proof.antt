@@ -2,7 +2,7 @@
 use mathlib.Core.Path.{sym, _∙_}
 use native.Mathlib.Omega.{arith}
 use borrow.Author.Needs.{needs}
-use Rattle.rules.specs.Bytes.{eventAt}
+use Rattle.rules.specs.Bytes.{eventIn}
 use Rattle.octets.proofs.Fits.{id-inside, event-inside, event-outside}
 use Rattle.octets.proofs.get_event.Statement.{statement}
 use Rattle.octets.proofs.get_event.Tie as tie
@@ -14,7 +14,7 @@ returns-2 : tie.Need-returns-2
 returns-2 c = c .none2 .ensures ∙ sym (event-outside _ _ (omega arith))
 
 returns-3 : tie.Need-returns-3
-unfolding eventAt
+unfolding eventIn
 returns-3 c =
     let fours = c .before .before .before .before in
     let program = fours .before .before .before .before in

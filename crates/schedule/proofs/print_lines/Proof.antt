@@ -6,12 +6,14 @@ use mathlib.Core.List.{List, [], _++_, append-assoc, append-nil}
 use native.Mathlib.Omega.{arith}
 use borrow.Author.Needs.{needs}
 use lib.ListN.{length, take, drop, length-drop}
-use lib.Seq.{length-take-le, take-all, drop-drop}
+use lib.Seq.{length-take-le, drop-drop}
 use Rattle.rules.specs.declared.Schedule.{Schedule}
 use Rattle.rules.specs.Sound.{sound}
-use Rattle.rules.specs.Printed.{linesOf, tellAll}
+use Rattle.rules.specs.Printed.{linesOf, tellAll, tellAllIn}
 use Rattle.calls.specs.declared.Ran.{Ran}
-use Rattle.calls.specs.Lines.{endedOf, ranOf, runOutcome}
+use Rattle.frame.specs.Ends.{endedOf}
+use Rattle.frame.proofs.Ends.{rest-of}
+use Rattle.calls.specs.Lines.{ranOf, runOutcome}
 use Rattle.calls.specs.Whole.{wrote, TextGoesOn}
 use Rattle.calls.proofs.Progress.{went}
 use Rattle.calls.proofs.Whole.{step, ended-step}
@@ -40,7 +42,7 @@ module _ {first : Schedule} {piece : List ℕ} {s : Schedule} {from : ℕ} (p : 
 
   -- no line that has ended is left
   printed-all : endedOf (drop from piece) ≡ [] → TextGoesOn first piece s (drop from piece)
-  unfolding tellAll
+  unfolding tellAllIn
   printed-all none after =
       let all : tellAll first (endedOf piece) ≡ p .text = p .ended ∙ rw none (append-nil (p .text)) in
       rw all (p .lines after)
@@ -69,11 +71,9 @@ abbrev start : tie.At-loop Inv-loop μ-loop → tie.Start Inv-loop μ-loop
 start loop = loop .before .before .before
 
 -- a run takes what is left of the piece
-rest-of : (loop : tie.At-loop Inv-loop μ-loop) → let piece = start loop .args .piece .now in
+left-of : (loop : tie.At-loop Inv-loop μ-loop) → let piece = start loop .args .piece .now in
     take (length piece - loop .loop .from) (drop (loop .loop .from) piece) ≡ drop (loop .loop .from) piece
-rest-of loop =
-    let piece = start loop .args .piece .now in
-    take-all (length piece - loop .loop .from) (drop (loop .loop .from) piece) (omega (arith, length-drop (loop .loop .from) piece))
+left-of loop = rest-of (start loop .args .piece .now) (loop .loop .from)
 
 loop-holds : tie.Need-loop-holds Inv-loop μ-loop
 loop-holds c = (c .before .before .pre .kept-rules, omega arith, refl, record { text = []; lines = λ after. refl; ended = refl })
@@ -103,7 +103,7 @@ returns-2 c =
     let r = wrote-of (c .before .before .before) .before in
     let l = loop-of r .loop in
     let w = went (l .s) (l .inv .0) (r .run .result) (r .run .ensures) in
-    let all = rest-of (loop-of r) in
+    let all = left-of (loop-of r) in
     let none = rw all at (w .some (omega (arith, start (loop-of r) .pre .room, l .inv .2)) (c .if2 .taken)) in
     let stays : l .from + r .run .result .read ≡ l .from = omega (arith, c .if2 .taken) in
     record {
@@ -118,7 +118,7 @@ add-from c =
     let r = took (c .before) .before in
     let l = loop-of r .loop in
     let w = went (l .s) (l .inv .0) (r .run .result) (r .run .ensures) in
-    record { fits = omega (arith, w .within, l .inv .1, ap length (rest-of (loop-of r)), length-drop (l .from) (start (loop-of r) .args .piece .now)) }
+    record { fits = omega (arith, w .within, l .inv .1, ap length (left-of (loop-of r)), length-drop (l .from) (start (loop-of r) .args .piece .now)) }
 
 loop-less : tie.Need-loop-less Inv-loop μ-loop
 loop-less c =
@@ -136,7 +136,7 @@ loop-again c =
       w .is-sound,
       omega (arith, w .within, l .inv .1),
       back .out .given ∙ l .inv .2,
-      printed-more (l .inv .3) (r .run .result) _ (r .run .ensures) (rest-of (loop-of r)),
+      printed-more (l .inv .3) (r .run .result) _ (r .run .ensures) (left-of (loop-of r)),
     )
 
 pub print-lines-spec : {M : Type 1} → statement M

@@ -1,6 +1,7 @@
 -- The lines end within what was read.
 use mathlib.Core.Path.{sym}
 use Prim.Native.Nat.{_+_}
+use native.Mathlib.Omega.{arith}
 use borrow.Author.Needs.{needs}
 use lib.Seq.{length-take-le}
 use Rattle.schedule.proofs.take_turn.Statement.{statement}
@@ -17,11 +18,14 @@ slice-aggregate-print-lines c =
     let start = got .before .before .before .before in
     sym (length-take-le (start .args .kept + counted .count .result) _ (slice-reshare-prefix-print-lines (c .before)))
 
-keep-requires : tie.Need-keep-requires
-keep-requires c κs =
-    let printed = c .before .before .before .before in
+returns-2 : tie.Need-returns-2
+returns-2 c =
+    let kept = c .before .before in
+    let printed = kept .before .before .before .before .before in
     let piece = printed .before .before in
-    record { ordered = rw (← slice-aggregate-print-lines piece) at (printed .print-lines .ensures .within); there = slice-reshare-prefix-print-lines (piece .before) }
+    let left = printed .print-lines .ensures in
+    let line = kept .keep .ensures (record { ordered = rw (← slice-aggregate-print-lines piece) at (left .within); there = slice-reshare-prefix-print-lines (piece .before) }) in
+    record { kept-rules = left .kept-rules; few = omega (arith, line .count) }
 
 pub take-turn-spec : {M : Type 1} → statement M
 take-turn-spec =
@@ -41,7 +45,7 @@ take-turn-spec =
     slice-reshare-prefix-print-lines
     slice-aggregate-print-lines
     (λ c κs. search needs)
-    keep-requires
+    (λ c κs. search needs)
     (λ c. search needs)
     (λ c. search needs)
-    (λ c. search needs))
+    returns-2)

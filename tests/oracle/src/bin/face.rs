@@ -1,15 +1,19 @@
 //! The proved part, called through C, against the oracle. `face [LISTS]` makes random lists of
 //! calls on both and compares after each call all that a host can see: the number returned, the
-//! image and the lent bytes, with guards around both.
+//! image and the lent bytes, with guards around both. Lists of lines go through the calls that turn
+//! a line, beside the converter.
 
 use std::collections::BTreeMap;
 use std::process::ExitCode;
 use std::time::Instant;
 
-use oracle::beside::{compare, make_fresh, same_from, Broken, Lent, Oracle, Outcome, Seen, SIDES};
+use oracle::beside::{
+    compare, make_fresh, same_from, Broken, Lent, Oracle, Outcome, Seen, Turning, SIDES, TURNINGS,
+};
+use oracle::both_kinds;
 use oracle::calls::{lines_of, AMPLE, ROW_BYTES};
 use oracle::event::MOST_EVENTS;
-use oracle::frame::{EVENT_FIELDS, ID_BYTES};
+use oracle::frame::{EVENT_FIELDS, ID_BYTES, LONGEST_LINE};
 use oracle::generate::{generate, go_on, profile_names};
 use oracle::ids;
 use oracle::image::{self, ENTRY_BYTES, IMAGE_BYTES, RECORD_BYTES};
@@ -22,7 +26,8 @@ use oracle::{decode, Calls, Choice, Event, Fast, Frame, Program, Row, Scheduler}
 
 const USAGE: &str = "\
 face [LISTS [FIRST]]   LISTS is the number of lists, 20000 if not given,
-                       FIRST the seed of the first one, 0 if not given";
+                       FIRST the seed of the first one, 0 if not given;
+                       a twentieth as many lists of lines come behind them";
 
 const LISTS: u64 = 20_000;
 
@@ -64,8 +69,9 @@ fn test_all(plant: Option<Plant>, lists: u64, first: u64) -> ExitCode {
     let begin = Instant::now();
     let mut face = Face::new(plant);
     let mut totals = Totals::default();
-    for seed in (first..).take(lists as usize) {
-        let list = List::draw(seed);
+    let of_calls = (first..).take(lists as usize).map(List::draw);
+    let of_lines = (first..).take(lists.div_ceil(20) as usize);
+    for list in of_calls.chain(of_lines.map(List::of_lines)) {
         let outcome = list.run(&mut face);
         totals.count(&list, outcome);
     }
@@ -125,6 +131,8 @@ enum Kind {
     Unreached,
     /// Two lists that meet the premise of demand 3.
     Pair,
+    /// Lines of both widths for the calls that turn one.
+    Lines,
 }
 
 /// The seed decides everything.
@@ -156,6 +164,14 @@ impl List {
         }
     }
 
+    fn of_lines(seed: u64) -> Self {
+        List {
+            seed,
+            kind: Kind::Lines,
+            profile: "none",
+        }
+    }
+
     fn run(&self, face: &mut Face) -> Outcome {
         let mut dice = Dice::new(self.seed).fork();
         let count = dice.between(20, 240) as usize;
@@ -169,6 +185,7 @@ impl List {
                 self.go_on(face, dice, oracle, &bytes, count)
             }
             Kind::Pair => pair_of_lists(face, dice),
+            Kind::Lines => turned_lines(face, dice, count),
         }
     }
 
@@ -316,6 +333,34 @@ fn conclusion(face: &mut Face, dice: Dice, text: &[u8]) -> Outcome<Conclusion> {
     })
 }
 
+// Lines with ids of 64 bits and of 128.
+
+fn turned_lines(face: &mut Face, mut dice: Dice, count: usize) -> Outcome {
+    for _ in 0..count {
+        let line = both_kinds::any(&mut dice);
+        for turning in &TURNINGS {
+            turned_line(face, &mut dice, turning, &line).map_err(|reason| {
+                let line = line.escape_ascii();
+                format!("{} {line}: {reason}", turning.name)
+            })?;
+        }
+    }
+    Ok(())
+}
+
+/// Into buffers of all lengths around the need, and some others.
+fn turned_line(face: &mut Face, dice: &mut Dice, turning: &Turning, line: &[u8]) -> Outcome {
+    let need = turning.need(line);
+    let around = need.saturating_sub(3)..need + 4;
+    let any = dice.below(3 * LONGEST_LINE as u64) as usize;
+    for room in around.chain([0, line.len(), LONGEST_LINE, any]) {
+        turning
+            .compare(dice, line, room, |line, out| face.turn(turning, line, out))
+            .map_err(|reason| format!("buffer of {room}, {reason}"))?;
+    }
+    Ok(())
+}
+
 // The proved side of a call.
 
 /// A fault that is put into what C gave, to see that it is noticed.
@@ -326,6 +371,7 @@ enum Plant {
     Choice,
     Earliest,
     Answer,
+    Digit,
 }
 
 impl Plant {
@@ -335,6 +381,7 @@ impl Plant {
             Plant::Mask | Plant::Choice => returned >= 0 && image[8] > 0,
             Plant::Earliest => matches!(call, Call::List(_)) && returned > 0,
             Plant::Answer => returned >= 0,
+            Plant::Digit => false,
         }
     }
 
@@ -355,6 +402,7 @@ impl Plant {
                 flip_bit(dice, &mut lent[time..time + 8]);
             }
             Plant::Answer => *returned += dice.pick(&[1, -1]),
+            Plant::Digit => flip_bit(dice, &mut lent[..*returned as usize]),
         }
     }
 }
@@ -367,12 +415,13 @@ fn any_entry(dice: &mut Dice, image: &[u8]) -> usize {
 /// Of so many places for a fault one gets it.
 const SELDOM: u64 = 1_000;
 
-const PLANTS: [(&str, Plant); 5] = [
+const PLANTS: [(&str, Plant); 6] = [
     ("row", Plant::Row),
     ("mask", Plant::Mask),
     ("choice", Plant::Choice),
     ("earliest", Plant::Earliest),
     ("answer", Plant::Answer),
+    ("digit", Plant::Digit),
 ];
 
 /// The C calls, with a tally of what they returned.
@@ -408,13 +457,27 @@ impl Face {
         };
         *self.tally.entry((call.name(), class)).or_default() += 1;
         if let Some(plant) = self.plant.filter(|plant| plant.fits(call, returned, image)) {
-            self.chances += 1;
-            if self.chances.is_multiple_of(SELDOM) {
-                self.planted += 1;
-                plant.spoil(&mut Dice::new(self.planted), &mut returned, image, lent);
-            }
+            self.plant(plant, &mut returned, image, lent);
         }
         returned
+    }
+
+    fn turn(&mut self, turning: &Turning, line: &[u8], out: &mut [u8]) -> i32 {
+        let mut returned = (turning.through_c)(line, out);
+        let entry = (turning.name, returned.min(1));
+        *self.tally.entry(entry).or_default() += 1;
+        if let (Some(plant @ (Plant::Digit | Plant::Answer)), 1..) = (self.plant, returned) {
+            self.plant(plant, &mut returned, &mut [], out);
+        }
+        returned
+    }
+
+    fn plant(&mut self, plant: Plant, returned: &mut i32, image: &mut [u8], lent: &mut [u8]) {
+        self.chances += 1;
+        if self.chances.is_multiple_of(SELDOM) {
+            self.planted += 1;
+            plant.spoil(&mut Dice::new(self.planted), returned, image, lent);
+        }
     }
 
     fn print(&self) {
@@ -429,6 +492,8 @@ impl Face {
             "set_clock",
             "ask",
             "list",
+            "lengthen",
+            "shorten",
         ];
         for name in names {
             let of_name = self.tally.iter().filter(|((known, _), _)| *known == name);

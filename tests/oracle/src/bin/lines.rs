@@ -1,11 +1,7 @@
 //! Tests of the program `schedule` by its lines alone. `lines PROGRAM [LISTS]` runs it as a child
 //! process on damaged lines, lines cut in pieces, random lists, pairs of lists and long lists.
 
-use std::fs::{self, File};
-use std::io::{self, Read, Write};
-use std::path::PathBuf;
-use std::process::{Child, ChildStdin, Command, ExitCode, Stdio};
-use std::thread;
+use std::process::ExitCode;
 use std::time::{Duration, Instant};
 
 use oracle::frame::ID_BYTES;
@@ -13,6 +9,7 @@ use oracle::generate::{generate, profile_names};
 use oracle::pair::pair;
 use oracle::program::{same, EXAMPLE, EXAMPLE_OUTPUT};
 use oracle::random::Dice;
+use oracle::trial::{Feed, Program, Tally};
 use oracle::{Calls, Scheduler};
 
 const USAGE: &str = "lines PROGRAM [LISTS]   LISTS is the number of random lists, 500 if not given";
@@ -28,16 +25,15 @@ fn main() -> ExitCode {
     let Ok(lists) = lists else {
         return give_up(USAGE);
     };
-    let mut tests = Tests::new(program);
-    if let Err(error) = tests.run(b"", Feed::File) {
+    let mut tests = Tests {
+        program: Program::new(program),
+        tally: Tally::default(),
+    };
+    if let Err(error) = tests.program.run(b"", Feed::File) {
         return give_up(&format!("{program}: {error}"));
     }
     test_all(&mut tests, lists);
-    println!("lines: {} passed, {} failed", tests.passed, tests.failed);
-    match tests.failed {
-        0 => ExitCode::SUCCESS,
-        _ => ExitCode::FAILURE,
-    }
+    tests.tally.close("lines")
 }
 
 fn give_up(message: &str) -> ExitCode {
@@ -60,127 +56,26 @@ fn test_all(tests: &mut Tests, lists: u64) {
     tests.section("10,000 lines", long_lists);
 }
 
-// Running the program.
-
-/// How the input reaches the program.
-#[derive(Clone, Copy)]
-enum Feed {
-    /// As a file, so that a read gets as much as it asks for.
-    File,
-    /// Through a pipe, with a pause after each piece so that the program mostly reads it alone.
-    Pipe { piece: usize, pause: Duration },
-}
-
-impl Feed {
-    const WHOLE: Feed = Feed::Pipe {
-        piece: usize::MAX,
-        pause: Duration::ZERO,
-    };
-}
-
 struct Tests {
-    program: PathBuf,
-    /// Where inputs go that the program reads as a file.
-    input: PathBuf,
-    passed: usize,
-    failed: usize,
-}
-
-impl Drop for Tests {
-    fn drop(&mut self) {
-        // It may never have been written.
-        let _ = fs::remove_file(&self.input);
-    }
+    program: Program,
+    tally: Tally,
 }
 
 impl Tests {
-    fn new(program: &str) -> Self {
-        let name = format!("lines-{}", std::process::id());
-        Tests {
-            program: PathBuf::from(program),
-            input: std::env::temp_dir().join(name),
-            passed: 0,
-            failed: 0,
-        }
-    }
-
     fn section(&mut self, name: &str, run: impl FnOnce(&mut Tests)) {
-        let (passed, failed) = (self.passed, self.failed);
-        let begin = Instant::now();
+        let before = self.tally.mark();
         run(self);
-        let seconds = begin.elapsed().as_secs_f64();
-        let (passed, failed) = (self.passed - passed, self.failed - failed);
-        println!("{name}: {passed} passed, {failed} failed ({seconds:.1} s)");
-    }
-
-    /// All that the program prints for the text.
-    fn run(&self, text: &[u8], feed: Feed) -> io::Result<Vec<u8>> {
-        match feed {
-            Feed::File => {
-                fs::write(&self.input, text)?;
-                finish(self.spawn(File::open(&self.input)?.into())?)
-            }
-            Feed::Pipe { piece, pause } => {
-                let mut child = self.spawn(Stdio::piped())?;
-                let input = child.stdin.take();
-                thread::scope(|scope| {
-                    scope.spawn(|| input.map(|input| pour(input, text, piece, pause)));
-                    finish(child)
-                })
-            }
-        }
-    }
-
-    fn spawn(&self, input: Stdio) -> io::Result<Child> {
-        Command::new(&self.program)
-            .stdin(input)
-            .stdout(Stdio::piped())
-            .spawn()
+        self.tally.print_since(&before, name);
     }
 
     /// One test: the program prints just the expected bytes.
     fn expect(&mut self, name: &str, text: &[u8], feed: Feed, expected: &[u8]) {
-        let outcome = self.run(text, feed).map_err(|error| error.to_string());
-        self.count(name, outcome.and_then(|out| same(expected, &out)));
+        let outcome = self.program.expect(text, feed, expected);
+        self.count(name, outcome);
     }
 
     fn count(&mut self, name: &str, outcome: Result<(), String>) {
-        match outcome {
-            Ok(()) => self.passed += 1,
-            Err(reason) => {
-                self.failed += 1;
-                println!("FAILED {name}: {reason}");
-            }
-        }
-    }
-}
-
-/// Gives up at the first error: a program that ends early shows it by its output. Pieces with
-/// pauses wait until the program has started, as else it would find several at once.
-fn pour(mut input: ChildStdin, text: &[u8], piece: usize, pause: Duration) {
-    const START: Duration = Duration::from_millis(20);
-    if !pause.is_zero() {
-        thread::sleep(START);
-    }
-    for part in text.chunks(piece) {
-        if input.write_all(part).is_err() {
-            return;
-        }
-        if !pause.is_zero() {
-            thread::sleep(pause);
-        }
-    }
-}
-
-fn finish(mut child: Child) -> io::Result<Vec<u8>> {
-    let mut out = Vec::new();
-    if let Some(mut printed) = child.stdout.take() {
-        printed.read_to_end(&mut out)?;
-    }
-    let status = child.wait()?;
-    match status.success() {
-        true => Ok(out),
-        false => Err(io::Error::other(format!("the program ended by {status}"))),
+        self.tally.count(name, outcome);
     }
 }
 
@@ -678,7 +573,12 @@ fn pairs(tests: &mut Tests, count: u64) {
 /// The joined rows and the last answers of the two lists are equal, and the rows are those of the
 /// schedule: two lists without any rows would be equal as well.
 fn compare_pair(tests: &Tests, first: &[u8], second: &[u8]) -> Result<(), String> {
-    let run = |text| tests.run(text, Feed::WHOLE).map_err(|e| e.to_string());
+    let run = |text| {
+        tests
+            .program
+            .run(text, Feed::WHOLE)
+            .map_err(|e| e.to_string())
+    };
     let (first_out, second_out) = (run(first)?, run(second)?);
     let rows = rows_of(&first_out);
     same(&schedule_rows(first), &rows).map_err(|e| format!("rows of the schedule, {e}"))?;
@@ -737,7 +637,10 @@ fn long_lists(tests: &mut Tests) {
 fn long_list(tests: &mut Tests, profile: &str, text: &[u8]) {
     const LIMIT: Duration = Duration::from_millis(500);
     let begin = Instant::now();
-    let out = tests.run(text, Feed::File).map_err(|e| e.to_string());
+    let out = tests
+        .program
+        .run(text, Feed::File)
+        .map_err(|e| e.to_string());
     let time = begin.elapsed();
     println!("10,000 lines of {profile}: {:.3} s", time.as_secs_f64());
     let expected = by_oracle(text);

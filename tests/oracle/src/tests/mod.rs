@@ -1,5 +1,6 @@
 mod choices;
 mod compare;
+mod convert;
 mod earliest;
 mod ids;
 mod images;

@@ -8,10 +8,11 @@ use lib.ListN.{length}
 use Rattle.rules.specs.Bytes.{rowsSize}
 use Rattle.rules.specs.Calls.{count}
 use Rattle.calls.specs.Slots.{scheduleOf, InUse}
-use Rattle.calls.specs.Lines.{endedOf, runs, ranInto}
+use Rattle.frame.specs.Ends.{endedOf}
+use Rattle.calls.specs.Lines.{runs, ranInto}
 use Rattle.calls.proofs.Returned.{same-schedule, ready}
 use Rattle.calls.proofs.Running.{Running, running-none, running-size, running-end, running-stop, running-past, running-more}
-use Rattle.calls.proofs.Ends.{end-within}
+use Rattle.frame.proofs.Ends.{end-within}
 use Rattle.calls.proofs.lines.run.Statement.{statement}
 use Rattle.calls.proofs.lines.run.Tie as tie
 

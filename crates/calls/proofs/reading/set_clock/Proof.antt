@@ -84,7 +84,7 @@ returns-3 c =
     let a = begun .args in
     let n = passed .advance .result .rows in
     let room : rowSize * n ≤ length (a .buffer .now) = omega (arith, fits-in .if2 .left) in
-    let bytes = copy .copy .ensures ∙ copy-inside (rowSize * n) _ (a .buffer .now) (omega (arith, at-most passed, passed .advance .ensures .advanced .size)) room in
+    let bytes = copy .copy .ensures ∙ copy-inside 0 (rowSize * n) _ (a .buffer .now) (omega (arith, at-most passed, passed .advance .ensures .advanced .size)) (omega arith) in
     (λ i. record { number = 0; value = count n; state = c .put-together .ensures i; bytes = bytes i; records = [] })
     ∙ fits (a .s) (begun .pre) (a .reading) (in-time in-range) _ _ n (moved passed) (a .buffer .now) room
 
@@ -105,5 +105,5 @@ set-clock-spec =
     (λ c. record { fits = omega (arith, at-most (c .before .before .before)) })
     (λ c κs. search needs)
     (λ c κs. fitting (copied (c .before)) .before .advance .ensures .used)
-    (λ c. ap length (copied (c .before .before) .copy .ensures) ∙ copy-size _ _ _)
+    (λ c. ap length (copied (c .before .before) .copy .ensures) ∙ copy-size _ _ _ _)
     returns-3)

@@ -1,0 +1,29 @@
+-- There is room for a line feed behind what is kept.
+use mathlib.Core.Path.{sym}
+use Prim.Native.Nat.{_+_}
+use native.Mathlib.Omega.{arith}
+use borrow.Author.Needs.{needs}
+use lib.ListN.{length-set}
+use lib.Seq.{length-take-le}
+use Rattle.converter.proofs.finish.Statement.{statement}
+use Rattle.converter.proofs.finish.Tie as tie
+
+slice-reshare-prefix-print-lines : tie.Need-slice-reshare-prefix-print-lines
+slice-reshare-prefix-print-lines c = simp length-set (omega arith)
+
+slice-aggregate-print-lines : tie.Need-slice-aggregate-print-lines
+slice-aggregate-print-lines c = sym (length-take-le (c .before .before .before .before .args .kept + 1) _ (simp length-set (omega arith)))
+
+pub finish-spec : {M : Type 1} → statement M
+finish-spec =
+    tie.close
+    (tie.spec
+    (λ c. search needs)
+    (λ c. search needs)
+    slice-reshare-prefix-print-lines
+    slice-aggregate-print-lines
+    (λ c κs. search needs)
+    (λ c. search needs)
+    (λ c. search needs)
+    (λ c. search needs)
+    (λ c. search needs))
