@@ -1,34 +1,33 @@
--- The first i are all digits if `all` says so, and the others are still to be looked at.
-use mathlib.Core.Path.{_≡_, refl, sym, _∙_}
-use Prim.Native.Nat.{_+_, _-_}
-use mathlib.Core.Bool.{_&&_, and-true, and-assoc}
+-- A part that is as long as the line is the line.
+use mathlib.Core.Path.{sym, ap, _∙_}
 use native.Mathlib.Omega.{arith}
 use borrow.Author.Needs.{needs}
-use lib.Dec.{ltb}
-use lib.ListN.{length, getD, drop, drop-of-length-le}
-use Rattle.rules.specs.Frames.{digit}
+use lib.Seq.{length-take-le, take-all}
 use Rattle.frame.specs.Decoded.{allDigits}
-use Rattle.rules.proofs.ListLaws.{each-more}
 use Rattle.frame.proofs.digits.are_digits.Statement.{statement}
 use Rattle.frame.proofs.digits.are_digits.Tie as tie
 
-abbrev Inv-loop : tie.InvT-loop
-Inv-loop line all₀ i₀ all i = allDigits line ≡ (all && allDigits (drop i line))
+slice-aggregate-all-digits : tie.Need-slice-aggregate-all-digits
+slice-aggregate-all-digits c = sym (length-take-le 68 (c .before .before .before .args .line .now) (omega arith))
 
-abbrev μ-loop : tie.MeasureT-loop
-μ-loop line all₀ i₀ all i = length line - i
+returns : tie.Need-returns
+returns c = c .all-digits .ensures ∙ ap allDigits (take-all 68 (c .before .before .before .before .args .line .now) (omega arith))
 
-loop-again : tie.Need-loop-again Inv-loop μ-loop
-loop-again c =
-    let l = c .before .before .before .loop in
-    let line = c .before .before .before .before .before .args .line .now in
-    l .inv ∙ rw (each-more (λ x. ltb (digit x) 16) 0 line (l .i) (c .before .before .loop-test .taken), c .is-digit .ensures) (sym (and-assoc (l .all) (ltb (digit (getD line (l .i) 0)) 16) (allDigits (drop (l .i + 1) line))))
+slice-aggregate-all-digits-2 : tie.Need-slice-aggregate-all-digits-2
+slice-aggregate-all-digits-2 c = sym (length-take-le 18 (c .before .before .before .before .args .line .now) (omega arith))
 
-returns : tie.Need-returns Inv-loop μ-loop
-returns c =
-    let l = c .before .loop in
-    let line = c .before .before .before .args .line .now in
-    sym (l .inv ∙ rw (drop-of-length-le line {i = l .i} (omega arith)) (and-true (l .all)))
+returns-2 : tie.Need-returns-2
+returns-2 c = c .all-digits2 .ensures ∙ ap allDigits (take-all 18 (c .before .before .before .before .before .args .line .now) (omega arith))
 
 pub are-digits-spec : {M : Type 1} → statement M
-are-digits-spec = tie.close (tie.spec Inv-loop μ-loop (λ c. refl) (search needs) (search needs) (search needs) (search needs) loop-again returns)
+are-digits-spec =
+    tie.close
+    (tie.spec
+    slice-aggregate-all-digits
+    (λ c κs. search needs)
+    returns
+    slice-aggregate-all-digits-2
+    (λ c κs. search needs)
+    returns-2
+    (λ c κs. search needs)
+    (λ c. search needs))

@@ -1,33 +1,26 @@
--- The ranges of the match are those of the definition.
-use mathlib.Core.Path.{sym}
+-- The two ranges are those of the definition.
+use mathlib.Core.Path.{_≡_, refl, sym}
+use Prim.Native.Nat.{ℕ, _-_}
+use mathlib.Core.Bool.{Bool, true, false, cond, _&&_, _||_}
 use native.Mathlib.Omega.{arith}
-use borrow.Author.Tests.{le-leb, lt-leb, lt-ltb}
+use borrow.Author.Tests.{lt-ltb, leb-true}
+use lib.Dec.{leb, ltb}
 use Rattle.rules.specs.Frames.{digit}
-use Rattle.frame.proofs.Pairs.{digit-low, digit-high}
+use Rattle.rules.proofs.Tests.{each-true}
 use Rattle.frame.proofs.digits.is_digit.Statement.{statement}
 use Rattle.frame.proofs.digits.is_digit.Tie as tie
 
+in-range : (x : ℕ) → ((leb 48 x && leb x 57) || (leb 65 x && leb x 70)) ≡ ltb (digit x) 16
+unfolding digit
+in-range x = by (leb 48 x && leb x 57) refl (leb 65 x && leb x 70) refl
+  where
+    by : (a : Bool) → (leb 48 x && leb x 57) ≡ a → (b : Bool) → (leb 65 x && leb x 70) ≡ b → (a || b) ≡ ltb (cond a (x - 48) (cond b (x - 55) 16)) 16
+    by true p b q = sym (lt-ltb (x - 48) 16 (omega (arith, leb-true x 57 (each-true (leb 48 x) (leb x 57) p .1))))
+    by false p true q = sym (lt-ltb (x - 55) 16 (omega (arith, leb-true x 70 (each-true (leb 65 x) (leb x 70) q .1))))
+    by false p false q = refl
+
 returns : tie.Need-returns
-returns c = let x = c .before .before .args .c in sym (lt-ltb (digit x) 16 (omega (arith, digit-low x (omega arith) (omega arith))))
-
-returns-2 : tie.Need-returns-2
-returns-2 c = let x = c .before .before .before .before .args .c in sym (lt-ltb (digit x) 16 (omega (arith, digit-high x (omega arith) (omega arith))))
-
-returns-3 : tie.Need-returns-3
-unfolding digit
-returns-3 c = let x = c .before .args .c in simp (lt-leb 48 x (omega arith), lt-leb 65 x (omega arith))
-
-returns-4 : tie.Need-returns-4
-unfolding digit
-returns-4 c =
-    let x = c .before .before .before .args .c in
-    simp (le-leb 48 x (omega arith), lt-leb x 57 (omega arith), lt-leb 65 x (omega arith))
-
-returns-5 : tie.Need-returns-5
-unfolding digit
-returns-5 c =
-    let x = c .before .before .before .before .args .c in
-    simp (le-leb 48 x (omega arith), lt-leb x 57 (omega arith), le-leb 65 x (omega arith), lt-leb x 70 (omega arith))
+returns c = in-range (c .args .c)
 
 pub is-digit-spec : {M : Type 1} → statement M
-is-digit-spec = tie.close (tie.spec returns returns-2 returns-3 returns-4 returns-5)
+is-digit-spec = tie.close (tie.spec returns)
