@@ -57,26 +57,41 @@ pub record Takes (piece : List ℕ) (read : ℕ) (done : List (List ℕ)) : Type
   pub ended : endedOf piece ≡ done ++ endedOf (drop read piece)
   pub lines : (after : List ℕ) → linesOf (piece ++ after) ≡ done ++ linesOf (drop read piece ++ after)
 
--- what turning some lines leaves: their texts at the front of the buffer; with room for any text none is left only if none has ended
-pub record PrintsSome (to : Width) (piece old : List ℕ) (r : Printed) (new : List ℕ) : Type 0 where
+-- bytes of a block of output
+abbrev pub blockSize : ℕ
+blockSize = 65536
+
+-- fewer bytes than a block stand at the front of a buffer and are still to be written, and there is room for a block and any text
+pub record CanPrint (pending : ℕ) (out : List ℕ) : Type 0 where
+  pub few : pending < blockSize
+  pub room : blockSize + mostTurned ≤ length out
+
+-- what turning some lines leaves: their texts behind those that were still to be written; a block of these, or no line that has ended
+pub record PrintsSome (to : Width) (piece : List ℕ) (pending : ℕ) (old : List ℕ) (r : Printed) (new : List ℕ) : Type 0 where
   pub done : List (List ℕ)
   pub takes : Takes piece (r .read) done
-  pub fits : r .written ≤ length old
-  pub texts : take (r .written) new ≡ textsOf to done
-  pub moves : mostTurned ≤ length old → r .read ≡ 0 → endedOf piece ≡ []
+  pub fits : r .pending < blockSize + mostTurned
+  pub texts : take (r .pending) new ≡ take pending old ++ textsOf to done
+  pub some : blockSize ≤ r .pending → 0 < r .read
+  pub all : r .pending < blockSize → endedOf (drop (r .read) piece) ≡ []
 
--- what printing leaves: if all was written, no line that has ended is left, and what is written for the rest comes behind it
-pub record Leaves (to : Width) (piece : List ℕ) (r : Piece) : Type 0 where
+-- what printing leaves: if all blocks could be written, no line that has ended is left, what is still to be written is the end of the texts, and what is written for the rest comes
+-- behind them
+pub record Leaves (to : Width) (piece : List ℕ) (pending : ℕ) (old : List ℕ) (r : Piece) (new : List ℕ) : Type 0 where
   pub within : r .read ≤ length piece
+  pub few : r .pending < blockSize
+  pub blocks : List ℕ
+  pub texts : r .written ≡ true → blocks ++ take (r .pending) new ≡ take pending old ++ textsOf to (endedOf piece)
   pub none-left : r .written ≡ true → endedOf (drop (r .read) piece) ≡ []
   pub goes-on : r .written ≡ true → (after : List ℕ) → converted (turnedTo to) (piece ++ after) ≡ textsOf to (endedOf piece) ++ converted (turnedTo to) (drop (r .read) piece ++ after)
 
--- some of a line stands at the front of a buffer, and there is room for any text
-pub record CanGoOn (kept : ℕ) (buffer out : List ℕ) : Type 0 where
-  pub few : kept ≤ mostKept
+-- some of a line stands at the front of a buffer, and there is room for texts
+pub record CanGoOn (kept : ℕ) (buffer : List ℕ) (pending : ℕ) (out : List ℕ) : Type 0 where
+  pub kept-few : kept ≤ mostKept
   pub size : length buffer ≡ bufferSize
-  pub room : mostTurned ≤ length out
+  pub prints : CanPrint pending out
 
 -- how it goes on
 pub record Rests (r : Rest) : Type 0 where
-  pub few : r .kept ≤ mostKept
+  pub kept-few : r .kept ≤ mostKept
+  pub few : r .pending < blockSize

@@ -56,7 +56,7 @@ no-kind {k} r =
       size = λ w. simp (one, two, three, four, five, six, seven);
     }
 
-above : (k : ℕ) → 7 < k → NoKind k
+pub above : (k : ℕ) → 7 < k → NoKind k
 above k h = no-kind (((((((tt, λ e. omega arith), λ e. omega arith), λ e. omega arith), λ e. omega arith), λ e. omega arith), λ e. omega arith), λ e. omega arith)
 
 -- what holds of each kind, and of what is no kind, holds of each number

@@ -40,31 +40,31 @@ const LONGEST: usize = EVENT_FRAME + Id::SIZE;
 // Frames and image. The longest line of a frame.
 pub const LONGEST_LINE: usize = 2 * LONGEST;
 
-// Document 02, #105. How many bytes an id has.
-fn bytes_of(width: Width) -> usize
-    ensures { λ r. ⌜ r ≡ widthOf width ⌝ }
-{
-    match width {
-        Width::Short => Id::HALF,
-        Width::Long => Id::SIZE,
-    }
-}
+// Document 02, #105. The sizes of the kinds from 0 to 7 as the bytes of one number, kind 0 the last: what they have besides an id, and a 1 for each with an id.
+const FIELDS: usize = 0x01_01_00_00_00_01_00_00 * ID_FRAME
+    + 0x01_00 * EVENT_FRAME
+    + 0x01_00_00_00 * CLOCK_FRAME
+    + 0x01_00_00_00_00 * PROGRAM_FRAME
+    + 0x01_00_00_00_00_00 * ASK_FRAME;
 
-// Frames and image. How many bytes a frame of a kind has, 0 for a number that is no kind.
+const IDS: usize = 0x01_01_00_00_00_01_01_00;
+
+const SHORT_SIZES: usize = FIELDS + Id::HALF * IDS;
+
+const LONG_SIZES: usize = FIELDS + Id::SIZE * IDS;
+
+// Frames and image. How many bytes a frame of a kind has, 0 for a number that is no kind. Every line asks for it, so it does not branch by the kind.
 fn size_of(width: Width, kind: u16) -> usize
     ensures { λ r. ⌜ r ≡ sizeIn (widthOf width) kind ⌝ }
 {
-    let id = bytes_of(width);
-    match kind {
-        1 => EVENT_FRAME + id,
-        2 => ID_FRAME + id,
-        3 => CLOCK_FRAME,
-        4 => PROGRAM_FRAME,
-        5 => ASK_FRAME,
-        6 => ID_FRAME + id,
-        7 => ID_FRAME + id,
-        _ => 0,
+    if 7 < kind {
+        return 0;
     }
+    let sizes = match width {
+        Width::Short => SHORT_SIZES,
+        Width::Long => LONG_SIZES,
+    };
+    (sizes >> (8 * kind)) % 256
 }
 
 // Frames and image. Where the first line of a text ends: at its line feed, or where the text ends.

@@ -1,31 +1,27 @@
--- What is left of the piece gets shorter with each run that takes a line.
-use mathlib.Core.Path.{refl, sym, ap, _∙_}
-use Prim.Native.Nat.{ℕ, _+_, _-_, _≤_}
-use mathlib.Core.Path.{_≡_}
+-- What is left of the piece gets shorter with each block.
+use mathlib.Core.Path.{_≡_, refl, sym, ap, _∙_}
+use Prim.Native.Nat.{ℕ, _+_, _-_, _<_, _≤_}
 use mathlib.Core.Bool.{false≢true}
-use mathlib.Core.List.{List, [], _++_}
+use mathlib.Core.List.{List, []}
 use native.Mathlib.Omega.{arith}
 use borrow.Author.Needs.{needs}
-use lib.ListN.{length, drop, length-drop}
-use lib.Seq.{length-take-le}
+use lib.ListN.{length, length-take}
+use lib.Seq.{drop-drop}
 use Rattle.frame.proofs.Ends.{rest-of}
-use Rattle.converter.specs.Pieces.{Takes}
-use Rattle.converter.proofs.Printing.{takes-none, takes-then, takes-all}
+use Rattle.converter.specs.Pieces.{blockSize}
+use Rattle.converter.proofs.Printing.{takes-all, Sent, sent-none, sent-more, sent-block, sent-all}
 use Rattle.converter.proofs.print_lines.Statement.{statement}
 use Rattle.converter.proofs.print_lines.Tie as tie
 
 abbrev Inv-loop : tie.InvT-loop
-Inv-loop to piece out₀ from₀ out from = (length out ≡ length out₀) × ((done : List (List ℕ)) × Takes piece from done)
+Inv-loop to piece out₀ pending from₀ at₀ out from at = (length out ≡ length out₀) × (at < blockSize) × Sent to piece pending out₀ from at out
 
 abbrev μ-loop : tie.MeasureT-loop
-μ-loop to piece out₀ from₀ out from = length piece - from
+μ-loop to piece out₀ pending from₀ at₀ out from at = length piece - from
 
--- back to the run of a turn: from where its texts are written, and where it is known that it took some; and from it to its turn and to the entry
-abbrev wrote : tie.After-write-all Inv-loop μ-loop → tie.After-print-some Inv-loop μ-loop
-wrote c = c .before .before .before .before
-
-abbrev took : tie.Else2 Inv-loop μ-loop → tie.After-print-some Inv-loop μ-loop
-took c = wrote (c .before .before .before)
+-- back to the lines of a turn: from where their bytes are added, where there is a block, and where it was written; and from them to their turn and to the entry
+abbrev added : tie.After-struct-known Inv-loop μ-loop → tie.After-print-some Inv-loop μ-loop
+added c = c .before .before .before
 
 abbrev turn : tie.After-print-some Inv-loop μ-loop → tie.At-loop Inv-loop μ-loop
 turn c = c .before .before .before
@@ -33,43 +29,79 @@ turn c = c .before .before .before
 abbrev start : tie.At-loop Inv-loop μ-loop → tie.Start Inv-loop μ-loop
 start c = c .before .before .before
 
--- what was taken with it
-taken : (c : tie.After-print-some Inv-loop μ-loop) → let l = turn c .loop in
-    Takes (start (turn c) .args .piece .now) (l .from + c .print-some .result .read) (l .inv .1 .0 ++ c .print-some .ensures .done)
-taken c =
-    let l = turn c .loop in
-    takes-then (l .inv .1 .1) (rest-of (start (turn c) .args .piece .now) (l .from)) (c .print-some .ensures .takes)
+print-some-requires : tie.Need-print-some-requires Inv-loop μ-loop
+print-some-requires c κs =
+    let at = c .before .before in
+    record { few = at .loop .inv .1; room = omega (arith, start at .pre .room, at .loop .inv .0) }
 
-slice-reshare-prefix-write-all : tie.Need-slice-reshare-prefix-write-all Inv-loop μ-loop
-slice-reshare-prefix-write-all c = let ran = c .before .before in omega (arith, ran .print-some .ensures .fits, c .before .out .given)
-
-slice-aggregate-write-all : tie.Need-slice-aggregate-write-all Inv-loop μ-loop
-slice-aggregate-write-all c = sym (length-take-le (c .before .before .before .print-some .result .written) _ (slice-reshare-prefix-write-all (c .before)))
+add-from : tie.Need-add-from Inv-loop μ-loop
+add-from c =
+    let ran = added c in
+    let piece = start (turn ran) .args .piece .now in
+    let sent = sent-more (turn ran .loop .inv .2) (rest-of piece (turn ran .loop .from)) (ran .print-some .ensures) in
+    record { fits = omega (arith, sent .takes .within) }
 
 returns : tie.Need-returns Inv-loop μ-loop
 returns c =
-    let l = turn (wrote (c .before)) .loop in
-    record { within = l .inv .1 .1 .within; none-left = λ e. absurd (false≢true e); goes-on = λ e. absurd (false≢true e) }
+    let ran = added (c .before) in
+    let a = start (turn ran) .args in
+    let l = turn ran .loop in
+    let rest = rest-of (a .piece .now) (l .from) in
+    let sent = sent-more (l .inv .2) rest (ran .print-some .ensures) in
+    let none = rw (rest, drop-drop) at (ran .print-some .ensures .all (c .if1 .taken)) in
+    record {
+      within = sent .takes .within;
+      few = c .if1 .taken;
+      blocks = sent .blocks;
+      texts = λ e. sent-all sent none;
+      none-left = λ e. none;
+      goes-on = λ e. takes-all (sent .takes) (a .to) none;
+    }
+
+slice-reshare-prefix-write-all : tie.Need-slice-reshare-prefix-write-all Inv-loop μ-loop
+slice-reshare-prefix-write-all c =
+    let at = turn (added (c .before)) in
+    omega (arith, c .before .before .before .out .given, start at .pre .room, at .loop .inv .0)
+
+slice-aggregate-write-all : tie.Need-slice-aggregate-write-all Inv-loop μ-loop
+slice-aggregate-write-all c = simp length-take (omega (arith, slice-reshare-prefix-write-all (c .before)))
 
 returns-2 : tie.Need-returns-2 Inv-loop μ-loop
 returns-2 c =
-    let ran = wrote (c .before .before .before) in
-    let begun = start (turn ran) in
-    let l = turn ran .loop in
-    let none = rw (rest-of (begun .args .piece .now) (l .from)) at (ran .print-some .ensures .moves (omega (arith, begun .pre, l .inv .0)) (c .if2 .taken)) in
-    record { within = l .inv .1 .1 .within; none-left = λ e. none; goes-on = λ e. takes-all (l .inv .1 .1) (begun .args .to) none }
+    let ran = added (c .before .before .before .before) in
+    let piece = start (turn ran) .args .piece .now in
+    let sent = sent-more (turn ran .loop .inv .2) (rest-of piece (turn ran .loop .from)) (ran .print-some .ensures) in
+    record {
+      within = sent .takes .within;
+      few = omega arith;
+      blocks = [];
+      texts = λ e. absurd (false≢true e);
+      none-left = λ e. absurd (false≢true e);
+      goes-on = λ e. absurd (false≢true e);
+    }
 
-add-from : tie.Need-add-from Inv-loop μ-loop
-add-from c = let ran = took (c .before) in record { fits = omega (arith, taken ran .within) }
+-- there is a block
+abbrev full : tie.After-slice-known3 Inv-loop μ-loop → tie.Else1 Inv-loop μ-loop
+full c = c .before .before .before .before .before .before .before
 
 loop-less : tie.Need-loop-less Inv-loop μ-loop
-loop-less c = let ran = took (c .before) in omega (arith, taken ran .within, c .before .if2 .left)
+loop-less c =
+    let ran = added (full c .before) in
+    let piece = start (turn ran) .args .piece .now in
+    let sent = sent-more (turn ran .loop .inv .2) (rest-of piece (turn ran .loop .from)) (ran .print-some .ensures) in
+    omega (arith, sent .takes .within, ran .print-some .ensures .some (full c .if1 .left))
 
 loop-again : tie.Need-loop-again Inv-loop μ-loop
 loop-again c =
-    let ran = took (c .before) in
+    let out = full c .before .before .before in
+    let ran = out .before in
     let l = turn ran .loop in
-    (c .before .before .before .before .before .before .before .out .given ∙ l .inv .0, (_, taken ran))
+    let piece = start (turn ran) .args .piece .now in
+    let sent = sent-more (l .inv .2) (rest-of piece (l .from)) (ran .print-some .ensures) in
+    let fits = ran .print-some .ensures .fits in
+    let kept = c .before .before .keep .ensures (record { ordered = full c .if1 .left; there = omega (arith, fits, out .out .given, start (turn ran) .pre .room, l .inv .0) }) in
+    let block = sent-block sent (full c .if1 .left) fits kept in
+    (c .before .out2 .given ∙ out .out .given ∙ l .inv .0, block .0, block .1)
 
 pub print-lines-spec : {M : Type 1} → statement M
 print-lines-spec =
@@ -77,18 +109,19 @@ print-lines-spec =
     (tie.spec
     Inv-loop
     μ-loop
-    (λ c. (refl, ([], takes-none _)))
+    (λ c. (refl, c .before .before .pre .few, sent-none _ _ _ _))
     (λ c. search needs)
-    (λ c. c .loop .inv .1 .1 .within)
+    (λ c. c .loop .inv .2 .takes .within)
     (λ c. search needs)
-    (λ c κs. search needs)
+    print-some-requires
+    add-from
+    (λ c. c .before .before .before .out .given ∙ turn (added (c .before)) .loop .inv .0)
+    returns
     slice-reshare-prefix-write-all
     slice-aggregate-write-all
     (λ c κs. search needs)
-    (λ c. search needs)
-    returns
-    (λ c. search needs)
+    (λ c. c .before .before .before .before .before .before .out .given ∙ turn (added (c .before .before .before .before)) .loop .inv .0)
     returns-2
-    add-from
+    (λ c κs. search needs)
     loop-less
     loop-again)

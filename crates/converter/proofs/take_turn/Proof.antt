@@ -25,7 +25,7 @@ returns-2 c =
     let piece = printed .before .before in
     let left = printed .print-lines .ensures in
     let line = kept .keep .ensures (record { ordered = rw (← slice-aggregate-print-lines piece) at (left .within); there = slice-reshare-prefix-print-lines (piece .before) }) in
-    record { few = omega (arith, line .count) }
+    record { kept-few = omega (arith, line .count); few = left .few }
 
 pub take-turn-spec : {M : Type 1} → statement M
 take-turn-spec =

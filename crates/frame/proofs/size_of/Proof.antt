@@ -1,50 +1,53 @@
--- The numbers of the match are those of the definition.
-use mathlib.Core.Path.{sym}
+-- The bytes of the numbers are those of the definition.
+use mathlib.Core.Path.{_≡_, refl, sym, ap, _∙_}
+use mathlib.Core.Logic.{⊎-elim}
+use Prim.Native.Nat.{ℕ, zero, suc, _*_, _/_, _%_, _^_, _≤_}
 use native.Mathlib.Omega.{arith}
 use borrow.Author.Needs.{needs}
-use Prim.Native.Nat.{_≤_}
-use Rattle.rules.specs.Records.{idSize}
-use Rattle.frame.specs.Decoded.{sizeIn}
-use Rattle.frame.proofs.ByKind.{no-kind, width-bound}
+use Rattle.frame.specs.declared.Width.{Width}
+use Rattle.frame.specs.declared.Width.the-variants.{Short, Long}
+use Rattle.frame.specs.Decoded.{widthOf, sizeIn}
+use Rattle.frame.proofs.ByKind.{above}
 use Rattle.frame.proofs.size_of.Statement.{statement}
 use Rattle.frame.proofs.size_of.Tie as tie
 
--- an id's bytes are few
-few : (c : tie.After-bytes-of) → c .bytes-of .result ≤ idSize
-few c = rw (c .bytes-of .ensures) (width-bound (c .before .args .width))
+-- the number of a width
+abbrev sizes : Width → ℕ
+sizes Short = 651053850371367424
+sizes Long = 1229766402489002496
 
-returns : tie.Need-returns
+-- what holds of each byte's number
+up-to-7 : (P : ℕ → Type 0) → P 0 → P 1 → P 2 → P 3 → P 4 → P 5 → P 6 → P 7 → (k : ℕ) → k ≤ 7 → P k
+up-to-7 P a b c d e f g i zero h = a
+up-to-7 P a b c d e f g i (suc zero) h = b
+up-to-7 P a b c d e f g i (suc (suc zero)) h = c
+up-to-7 P a b c d e f g i (suc (suc (suc zero))) h = d
+up-to-7 P a b c d e f g i (suc (suc (suc (suc zero)))) h = e
+up-to-7 P a b c d e f g i (suc (suc (suc (suc (suc zero))))) h = f
+up-to-7 P a b c d e f g i (suc (suc (suc (suc (suc (suc zero)))))) h = g
+up-to-7 P a b c d e f g i (suc (suc (suc (suc (suc (suc (suc zero))))))) h = i
+up-to-7 P a b c d e f g i (suc (suc (suc (suc (suc (suc (suc (suc k)))))))) h = absurd (omega arith)
+
+byte : (w : Width) (k : ℕ) → k ≤ 7 → sizes w / 2 ^ (8 * k) % 256 ≡ sizeIn (widthOf w) k
 unfolding sizeIn
-returns c = rw (c .match .keys1) (omega (arith, c .before .bytes-of .ensures))
+byte Short = up-to-7 (λ k. sizes Short / 2 ^ (8 * k) % 256 ≡ sizeIn (widthOf Short) k) refl refl refl refl refl refl refl refl
+byte Long = up-to-7 (λ k. sizes Long / 2 ^ (8 * k) % 256 ≡ sizeIn (widthOf Long) k) refl refl refl refl refl refl refl refl
 
 returns-2 : tie.Need-returns-2
-unfolding sizeIn
-returns-2 c = rw (c .match .keys2) (omega (arith, c .before .bytes-of .ensures))
-
-returns-3 : tie.Need-returns-3
-unfolding sizeIn
-returns-3 c = rw (c .match .keys3)
-
-returns-4 : tie.Need-returns-4
-unfolding sizeIn
-returns-4 c = rw (c .match .keys4)
-
-returns-5 : tie.Need-returns-5
-unfolding sizeIn
-returns-5 c = rw (c .match .keys5)
-
-returns-6 : tie.Need-returns-6
-unfolding sizeIn
-returns-6 c = rw (c .match .keys6) (omega (arith, c .before .bytes-of .ensures))
-
-returns-7 : tie.Need-returns-7
-unfolding sizeIn
-returns-7 c = rw (c .match .keys7) (omega (arith, c .before .bytes-of .ensures))
-
-returns-8 : tie.Need-returns-8
-returns-8 c = sym (no-kind (c .match .rest) .size _)
+returns-2 c =
+    let a = c .before .before .before .args in
+    let is : c .before .match .sizes ≡ sizes (a .width) =
+    ⊎-elim (λ w. w .2 ∙ ap sizes (sym (w .1 .given .1))) (λ w. w .2 ∙ ap sizes (sym (w .1 .given .1))) (c .before .match .came) in
+    rw is (byte (a .width) (a .kind) (omega (arith, c .before .before .if1 .left)))
 
 pub size-of-spec : {M : Type 1} → statement M
 size-of-spec =
     tie.close
-    (tie.spec (λ c κs. search needs) (λ c. record { fits = omega (arith, few (c .before)) }) (λ c. record { fits = omega (arith, few (c .before)) }) (λ c. record { fits = omega (arith, few (c .before)) }) (λ c. record { fits = omega (arith, few (c .before)) }) returns returns-2 returns-3 returns-4 returns-5 returns-6 returns-7 returns-8)
+    (tie.spec
+    (λ c. sym (above _ (c .if1 .taken) .size _))
+    (λ c. search needs)
+    (λ c. search needs)
+    (λ c. search needs)
+    (λ c. search needs)
+    (λ c. search needs)
+    returns-2)
