@@ -19,14 +19,14 @@ use crate::clock::{Due, Standing};
 use crate::held::{Head, Rows, Slots};
 use crate::{agenda, clock, finish};
 
-#[derive(Drop)]
+#[derive(Clone, Copy)]
 pub(crate) struct Passed {
     pub(crate) head: Head,
     pub(crate) rows: usize,
 }
 
 // What the moments leave besides the slots: the places of the events that have ended, and how many rows there are.
-#[derive(Drop)]
+#[derive(Clone, Copy)]
 struct Through {
     ended: u64,
     rows: usize,

@@ -90,7 +90,7 @@ pub(crate) fn gather(clock: u64, to: u64, slots: &Slots, n: usize, agenda: &mut 
 }
 
 // Changes that were taken: the set of their places, and where the next change stands.
-#[derive(Drop)]
+#[derive(Clone, Copy)]
 pub(crate) struct Taken {
     pub(crate) places: u64,
     pub(crate) next: usize,

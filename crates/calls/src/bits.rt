@@ -7,7 +7,7 @@ ghost use Rattle.calls.specs.Sets.{set_width, Lowest};
 pub(crate) const SET_WIDTH: u64 = 64;
 
 // The lowest place of a set, and the set without it.
-#[derive(Drop)]
+#[derive(Clone, Copy)]
 pub(crate) struct Next {
     pub(crate) place: usize,
     pub(crate) rest: u64,

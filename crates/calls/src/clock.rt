@@ -14,7 +14,7 @@ use crate::{bits, held, settle};
 use rules::{Choice, Id};
 
 // The places whose events end, and those whose events begin, at a moment.
-#[derive(Drop)]
+#[derive(Clone, Copy)]
 pub(crate) struct Due {
     pub(crate) ending: u64,
     pub(crate) starting: u64,
@@ -22,7 +22,7 @@ pub(crate) struct Due {
 
 // Where a clock call stands: the places whose events hold something, those for which a held second has been counted since the clock, and how many rows
 // there are. The choices stay as they are during the call, so that a second one would count for nothing.
-#[derive(Drop)]
+#[derive(Clone, Copy)]
 pub(crate) struct Standing {
     pub(crate) holding: u64,
     pub(crate) counted: u64,

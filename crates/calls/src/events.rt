@@ -12,7 +12,7 @@ use crate::{Acted, held};
 use rules::{Answer, Choice, Entry, Event, Id, Program, Schedule};
 
 // Where an id stands among the slots or would stand, and whether it is held.
-#[derive(Drop)]
+#[derive(Clone, Copy)]
 struct Place {
     at: usize,
     held: bool,

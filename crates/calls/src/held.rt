@@ -64,7 +64,7 @@ pub(crate) type Rows = [u8; rules::ROWS_SIZE];
 pub(crate) const NO_ROWS: Rows = [0; rules::ROWS_SIZE];
 
 // What a schedule has besides its events.
-#[derive(Drop)]
+#[derive(Clone, Copy)]
 pub(crate) struct Head {
     pub(crate) clock: u64,
     pub(crate) count: usize,

@@ -1,5 +1,8 @@
 // The calls by value. Each takes the schedule and any other input, and hands the schedule back with an answer. What it returns and leaves behind is
 // one equation with `call` of the definitions, refusals included: first 2 for a schedule that breaks a rule, then the call's own numbers in order.
+
+#![tactic(auto)]
+
 ghost use Rattle.std.specs.Prelude.{◌≡◌, []};
 ghost use Rattle.rules.specs.Records.{id_number};
 ghost use Rattle.rules.specs.Calls.{call, add_program, deliver, cancel, choose, set_clock, ask};
@@ -23,21 +26,21 @@ mod settle;
 use rules::{Answer, Event, Frame, Id, Line, Schedule};
 
 // What a call returns.
-#[derive(Drop)]
+#[derive(Clone, Copy)]
 pub struct Answered {
     pub answer: Answer,
     pub schedule: Schedule,
 }
 
 // What a call on slots returns: they stay with the caller.
-#[derive(Drop)]
+#[derive(Clone, Copy)]
 pub(crate) struct Acted {
     pub(crate) answer: Answer,
     pub(crate) head: held::Head,
 }
 
 // What a run over lines returns: how many bytes it wrote, or its refusal; how many bytes of the lines it took.
-#[derive(Drop)]
+#[derive(Clone, Copy)]
 pub struct Ran {
     pub answer: Answer,
     pub read: usize,

@@ -31,7 +31,7 @@ fn act_on(d: Head, slots: &mut Slots, f: Frame, rows: &mut Rows) -> Acted
 }
 
 // A line of a text: where it ends, and what it stands for.
-#[derive(Drop)]
+#[derive(Clone, Copy)]
 struct NextLine {
     end: usize,
     line: Line,
@@ -56,7 +56,7 @@ fn next_line(text: &[u8], from: usize) -> NextLine
 }
 
 // What a line leaves besides the slots: the rest of the schedule, and the place behind its text.
-#[derive(Drop)]
+#[derive(Clone, Copy)]
 struct Telling {
     head: Head,
     behind: usize,

@@ -46,7 +46,7 @@ pub(crate) fn add_program(mut d: Head, number: u8, primacy: u8, defaults: u32) -
 }
 
 // The best default found so far: a program's number and primacy, if there is one.
-#[derive(Drop)]
+#[derive(Clone, Copy)]
 pub(crate) struct Best {
     pub(crate) found: bool,
     pub(crate) number: u8,

@@ -1,4 +1,7 @@
 // Document 02, #105. Recorded lines turned: ids of 64 bits into ids of 128 bits, and back. No field is looked at: whatever a frame says, it is turned.
+
+#![tactic(auto)]
+
 ghost use Rattle.std.specs.Prelude.{◌≡◌, ◌+◌, cond};
 ghost use Rattle.rules.specs.Converted.{kind_digits, half_digits, widened, narrowed, lengthened, shortened, turned_into};
 ghost use Rattle.convert.specs.Turns.{other_than, turned_to, answered, refused_line, written_at, turned_at, upper_zero, OfId};

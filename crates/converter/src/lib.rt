@@ -1,5 +1,8 @@
 // Document 02, #105. Lines from standard input, each turned to a width, on standard output. It reads in large pieces and keeps no more of its input than one
 // buffer; it writes whole blocks, so nothing until there is one or the input ends.
+
+#![tactic(auto)]
+
 ghost use Rattle.std.specs.Prelude.{◌≡◌, ◌+◌, length};
 ghost use Rattle.text.specs.Texts.{Stands};
 ghost use Rattle.converter.specs.Pieces.{most_turned, block_size, end_at, end_text, CanEnd, CanTell, Tells, CanPrint, PrintsSome, Leaves, CanGoOn, Rests};
@@ -28,7 +31,7 @@ fn end_text(number: u8, n: usize, out: &mut [u8], at: usize) -> usize
 }
 
 // Where a line ends, and the place behind its text.
-#[derive(Drop)]
+#[derive(Clone, Copy)]
 struct Told {
     end: usize,
     behind: usize,
@@ -56,7 +59,7 @@ fn tell(to: Width, text: &[u8], from: usize, out: &mut [u8], at: usize) -> Told
 }
 
 // How many bytes of a piece were taken, and how many bytes of texts are still to be written.
-#[derive(Drop)]
+#[derive(Clone, Copy)]
 struct Printed {
     read: usize,
     pending: usize,
@@ -87,7 +90,7 @@ fn print_some(to: Width, piece: &[u8], out: &mut [u8], pending: usize) -> Printe
 }
 
 // What the lines of a piece left: how many bytes they were, how many bytes of texts are still to be written, and whether the others could be.
-#[derive(Drop)]
+#[derive(Clone, Copy)]
 struct Piece {
     read: usize,
     pending: usize,
@@ -124,7 +127,7 @@ fn print_lines(to: Width, piece: &[u8], out: &mut [u8], pending: usize) -> Piece
 }
 
 // How it goes on after a piece of input: with how much of a line, with how many bytes of texts, and whether at all.
-#[derive(Drop)]
+#[derive(Clone, Copy)]
 struct Rest {
     kept: usize,
     pending: usize,

@@ -1,4 +1,7 @@
 // Lines of document 01 and the frames that they stand for: a decoder, an encoder, and that each undoes the other.
+
+#![tactic(auto)]
+
 ghost use Rattle.std.specs.Prelude.{◌≡◌, ◌*◌, ◌<◌, length, get_or};
 ghost use Rattle.rules.specs.declared.Frame.{Frame};
 ghost use Rattle.rules.specs.declared.Line.TheVariants.{Good, Bad};
@@ -13,7 +16,7 @@ mod fields;
 use rules::{Event, Frame, Id, Line};
 
 // Document 02, #105. The width of the ids in frames: 64 bits in recorded lines, 128 bits in those of the calls.
-#[derive(Drop)]
+#[derive(Clone, Copy)]
 pub enum Width {
     Short,
     Long,
@@ -91,7 +94,7 @@ pub fn likely_end(width: Width, text: &[u8]) -> usize
 }
 
 // What a line is: no frame, a frame without an id, or one with an id.
-#[derive(Drop)]
+#[derive(Clone, Copy)]
 pub enum Shape {
     NoFrame,
     WithoutId,

@@ -2,6 +2,9 @@
 // and stores what the call left. A question stores nothing, since an accepted image is that of its schedule; a listing checks the schedule and writes its
 // records, and makes no call. A number that is returned is an answer, or the two's complement of a refusal's negative; a refused operation leaves every byte.
 // Document 02, #104: an id comes in as two numbers, its upper half first, and goes out as its bytes.
+
+#![tactic(auto)]
+
 ghost use Rattle.std.specs.Prelude.{◌≡◌, true, false, []};
 ghost use Rattle.rules.specs.Records.{halves, event_of};
 ghost use Rattle.rules.specs.Converted.{lengthened, shortened, turned_into, face_line};
@@ -13,7 +16,7 @@ mod answers;
 use rules::{Answer, Event, Id, Record, Schedule};
 
 // What loading returns.
-#[derive(Drop)]
+#[derive(Clone, Copy)]
 pub struct Opened {
     pub answer: Answer,
     pub schedule: Schedule,

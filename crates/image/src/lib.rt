@@ -1,4 +1,7 @@
 // The image of a schedule, read and written whatever it says: whether the schedule is sound is for the calls to check.
+
+#![tactic(auto)]
+
 ghost use Rattle.std.specs.Prelude.{◌≡◌};
 ghost use Rattle.image.specs.Exchange.{no_image, read_of, written_to, put_record};
 
@@ -30,7 +33,7 @@ const BEGINS: usize = Event::SIZE;
 const HELD: usize = Event::SIZE + 8;
 
 // What bytes are as an image: whether they keep its length, its marks and the bits of its choices, and if so the schedule in them.
-#[derive(Drop)]
+#[derive(Clone, Copy)]
 pub struct Loaded {
     pub formed: bool,
     pub schedule: Schedule,

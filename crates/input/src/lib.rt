@@ -1,4 +1,7 @@
 // What a program keeps of its input from one piece to the next: the line that has not ended yet.
+
+#![tactic(auto)]
+
 ghost use Rattle.std.specs.Prelude.{◌≡◌, ◌-◌, cond};
 ghost use Rattle.input.specs.Kept.{kept};
 

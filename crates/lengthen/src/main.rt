@@ -1,4 +1,7 @@
 // Document 02, #105. The program `lengthen`: recorded lines with ids of 64 bits from standard input, turned into lines with ids of 128 bits.
+
+#![tactic(auto)]
+
 use frame::Width;
 
 fn main() {

@@ -1,4 +1,7 @@
 // Calls, list: the held events by ascending id, by value and into a list that the host lends.
+
+#![tactic(auto)]
+
 ghost use Rattle.std.specs.Prelude.{◌≡◌, []};
 ghost use Rattle.rules.specs.Calls.{call, list};
 ghost use Rattle.calls.specs.Answered.{outcome_of};
@@ -10,7 +13,7 @@ use calls::Answered;
 use rules::{Answer, Record, Schedule};
 
 // What a listing by value returns: the answer, and the lent list as the call left it.
-#[derive(Drop)]
+#[derive(Clone, Copy)]
 pub struct AnsweredList {
     pub answer: Answer,
     pub records: [Record; Schedule::EVENTS],

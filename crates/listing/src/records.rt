@@ -10,7 +10,7 @@ use calls::Answered;
 use rules::{Answer, Entry, Record, Schedule};
 
 // How many records are to be written, and in which places they stand. A refused call writes none.
-#[derive(Drop)]
+#[derive(Clone, Copy)]
 pub(crate) struct Gathered {
     pub(crate) count: usize,
     pub(crate) records: [Record; Schedule::EVENTS],

@@ -1,4 +1,7 @@
 // Each call on documents 01's and 02's numbers: the worked example, bench marks, choices, and every refusal of the six calls. What it writes is held to the file stdout.
+
+#![tactic(auto)]
+
 use calls::Answered;
 use libc::STDOUT_FILENO;
 use rules::{Answer, Event, Id, ROW_SIZE, ROWS_SIZE, Schedule};

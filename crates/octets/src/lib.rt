@@ -1,4 +1,7 @@
 // Bytes in a slice: numbers, the most significant byte first, ids, events, and copies. Each function takes every place and every width.
+
+#![tactic(auto)]
+
 ghost use Rattle.std.specs.Prelude.{◌≡◌, ◌+◌, leb};
 ghost use Rattle.rules.specs.Records.{id_size, id_number};
 ghost use Rattle.octets.specs.Octets.{get_at, put_at, get_id, get_event, put_event, copied};

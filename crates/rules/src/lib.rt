@@ -1,5 +1,8 @@
 // Document 01 in checkable form: its records, its definitions (specs/), and what is proved of them (proofs/).
 // The functions below the records do nothing: each carries a theorem as its promise, so that a reader of the code meets it.
+
+#![tactic(auto)]
+
 ghost use Rattle.std.specs.Prelude.{◌≡◌, true};
 ghost use Rattle.rules.specs.Records.{no_event, no_choice, no_entry, fresh, pad};
 ghost use Rattle.rules.specs.Sound.{sound};
@@ -41,14 +44,14 @@ pub const ROWS_SIZE: usize = MOST_ROWS * ROW_SIZE;
 
 // Document 02, #104. An id: the mRID of an event, 128 bits in two halves. Definitions read it as one number (`id_number`). Code outside this crate can't look
 // inside: ids.rt has what can be done with one, crates/octets its bytes, crates/text its digits.
-#[derive(Drop)]
+#[derive(Clone, Copy)]
 pub struct Id {
     high: u64,
     low: u64,
 }
 
 // Records. A program in its place, which is its number.
-#[derive(Drop)]
+#[derive(Clone, Copy)]
 pub struct Program {
     pub added: bool,
     pub primacy: u8,
@@ -56,7 +59,7 @@ pub struct Program {
 }
 
 // Records. Whether a primacy may be used.
-#[derive(Drop)]
+#[derive(Clone, Copy)]
 pub enum Primacy {
     Usable,
     Reserved,
@@ -64,7 +67,7 @@ pub enum Primacy {
 
 // Records. An event. In memory its program comes before its id: an array of unused entries is then filled by a loop, which the compiler else writes out 48 times
 // over wherever it stands.
-#[derive(Drop)]
+#[derive(Clone, Copy)]
 pub struct Event {
     pub program: u8,
     pub id: Id,
@@ -81,7 +84,7 @@ pub struct Event {
 
 // Effective period. The times that are worked out for an event: `start` is document 01's effective start, `end` the effective end, `earliest` what document 02, #101,
 // takes from IEEE 2030.5 as Earliest Effective Start Time.
-#[derive(Drop)]
+#[derive(Clone, Copy)]
 pub struct Period {
     pub start: u64,
     pub end: u64,
@@ -89,14 +92,14 @@ pub struct Period {
 }
 
 // A time that was worked out, with the record handed back.
-#[derive(Drop)]
+#[derive(Clone, Copy)]
 pub struct Dated {
     pub time: u64,
     pub event: Event,
 }
 
 // Document 02, #102. The user's choice on a held event: whether the user is out now, was in for a second in which it held something, was out for one.
-#[derive(Drop)]
+#[derive(Clone, Copy)]
 pub struct Choice {
     pub out: bool,
     pub was_in: bool,
@@ -104,7 +107,7 @@ pub struct Choice {
 }
 
 // Frames and image. An event that is held: its effective start, the controls that it holds now, whether it is cancelled, the user's choice.
-#[derive(Drop)]
+#[derive(Clone, Copy)]
 pub struct Entry {
     pub event: Event,
     pub begins: u64,
@@ -114,14 +117,14 @@ pub struct Entry {
 }
 
 // Calls. What a listing gives for each held event. Document 02, #101: with the moment at which it might begin at the earliest.
-#[derive(Drop)]
+#[derive(Clone, Copy)]
 pub struct Record {
     pub entry: Entry,
     pub earliest: u64,
 }
 
 // Records. The state that goes into each call and comes out of it.
-#[derive(Drop)]
+#[derive(Clone, Copy)]
 pub struct Schedule {
     pub clock: u64,
     pub count: usize,
@@ -130,7 +133,7 @@ pub struct Schedule {
 }
 
 // What a call answers.
-#[derive(Drop)]
+#[derive(Clone, Copy)]
 pub enum Answer {
     Refused(u8),
     Code(u8),
@@ -141,7 +144,7 @@ pub enum Answer {
 }
 
 // A frame of a line.
-#[derive(Drop)]
+#[derive(Clone, Copy)]
 pub enum Frame {
     Event(Event),
     Cancel(Id),
@@ -152,7 +155,7 @@ pub enum Frame {
     OptIn(Id),
 }
 
-#[derive(Drop)]
+#[derive(Clone, Copy)]
 pub enum Line {
     Good(Frame),
     Bad,

@@ -1,12 +1,15 @@
 // The program `schedule`: frames from standard input, one to a line, and what document 01 has printed for each on standard output. It reads and writes in
 // large pieces, and keeps no more of its input than one buffer. What is printed for the lines in it is what `calls::run` promises.
+
+#![tactic(auto)]
+
 ghost use Rattle.schedule.specs.Pieces.{CanPrint, CanGoOn, Leaves, Rests};
 
 use libc::{STDIN_FILENO, STDOUT_FILENO};
 use rules::Schedule;
 
 // What the lines of a piece left: the schedule, how many bytes they were, and whether their texts could be written.
-#[derive(Drop)]
+#[derive(Clone, Copy)]
 struct Piece {
     schedule: Schedule,
     read: usize,
@@ -45,7 +48,7 @@ fn print_lines(mut s: Schedule, piece: &[u8], out: &mut [u8]) -> Piece
 }
 
 // How it goes on after a piece of input: with how much of a line, and whether at all.
-#[derive(Drop)]
+#[derive(Clone, Copy)]
 struct Rest {
     schedule: Schedule,
     kept: usize,

@@ -1,4 +1,7 @@
 // Refusal 2: whether a schedule by value keeps the rules of an image, each array in one pass.
+
+#![tactic(auto)]
+
 ghost use Rattle.std.specs.Prelude.{◌≡◌, ◌≤◌, not, ◌&&◌, ◌||◌, List, eqb, ltb, take, drop};
 ghost use Rattle.rules.specs.declared.Program.{Program};
 ghost use Rattle.rules.specs.Lists.{each};

@@ -1,5 +1,8 @@
 // What the program prints for a line, as text in a lent buffer. Each function writes from `at` on and returns the place behind what it wrote; without room
 // for the longest text of its kind it writes nothing and returns `at`.
+
+#![tactic(auto)]
+
 ghost use Rattle.std.specs.Prelude.{◌≡◌, ◌+◌, cond, ◌&&◌, [], leb, eqb, length};
 ghost use Rattle.rules.specs.Records.{most_rows};
 ghost use Rattle.rules.specs.Bytes.{rows_size};

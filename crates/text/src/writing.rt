@@ -115,7 +115,7 @@ fn number(out: &mut [u8], at: usize, x: u64, behind: u8) -> usize
 }
 
 // A number of two halves in two parts: the front, in two halves too, and the last eight digits.
-#[derive(Drop)]
+#[derive(Clone, Copy)]
 struct Divided {
     high: u64,
     low: u64,

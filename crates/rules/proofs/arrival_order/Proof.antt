@@ -6,5 +6,5 @@ use Rattle.rules.proofs.arrival_order.Tie as tie
 returns : tie.Need-returns
 returns c = arrival_order
 
-pub arrival-order-spec : {M : Type 1} → statement M
-arrival-order-spec = tie.close (tie.spec returns)
+pub arrival_order_spec : {M : Type 1} → statement M
+arrival_order_spec = tie.close (tie.spec returns)

@@ -6,5 +6,5 @@ use Rattle.rules.proofs.arrival_sample.Tie as tie
 returns : tie.Need-returns
 returns c = sample
 
-pub arrival-sample-spec : {M : Type 1} → statement M
-arrival-sample-spec = tie.close (tie.spec returns)
+pub arrival_sample_spec : {M : Type 1} → statement M
+arrival_sample_spec = tie.close (tie.spec returns)

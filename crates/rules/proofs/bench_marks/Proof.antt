@@ -6,5 +6,5 @@ use Rattle.rules.proofs.bench_marks.Tie as tie
 returns : tie.Need-returns
 returns c = bench_marks
 
-pub bench-marks-spec : {M : Type 1} → statement M
-bench-marks-spec = tie.close (tie.spec returns)
+pub bench_marks_spec : {M : Type 1} → statement M
+bench_marks_spec = tie.close (tie.spec returns)

@@ -6,5 +6,5 @@ use Rattle.rules.proofs.calls_answered.Tie as tie
 returns : tie.Need-returns
 returns c = call_tables
 
-pub calls-answered-spec : {M : Type 1} → statement M
-calls-answered-spec = tie.close (tie.spec returns)
+pub calls_answered_spec : {M : Type 1} → statement M
+calls_answered_spec = tie.close (tie.spec returns)

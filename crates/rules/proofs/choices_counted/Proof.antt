@@ -6,5 +6,5 @@ use Rattle.rules.proofs.choices_counted.Tie as tie
 returns : tie.Need-returns
 returns c = choices_hold_lem
 
-pub choices-counted-spec : {M : Type 1} → statement M
-choices-counted-spec = tie.close (tie.spec returns)
+pub choices_counted_spec : {M : Type 1} → statement M
+choices_counted_spec = tie.close (tie.spec returns)

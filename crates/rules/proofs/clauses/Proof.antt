@@ -38,5 +38,5 @@ returns c = record {
   sound = record { kept = sound_call };
 }
 
-pub clauses-spec : {M : Type 1} → statement M
-clauses-spec = tie.close (tie.spec returns)
+pub clauses_spec : {M : Type 1} → statement M
+clauses_spec = tie.close (tie.spec returns)

@@ -6,5 +6,5 @@ use Rattle.rules.proofs.histories_brought.Tie as tie
 returns : tie.Need-returns
 returns c = histories_hold_lem
 
-pub histories-brought-spec : {M : Type 1} → statement M
-histories-brought-spec = tie.close (tie.spec returns)
+pub histories_brought_spec : {M : Type 1} → statement M
+histories_brought_spec = tie.close (tie.spec returns)

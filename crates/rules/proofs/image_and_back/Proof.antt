@@ -7,5 +7,5 @@ use Rattle.rules.proofs.image_and_back.Tie as tie
 returns : tie.Need-returns
 returns c h = image_kept c.args.s h (schedule_fits c.args.s _ c.well-formed.0)
 
-pub image-and-back-spec : {M : Type 1} → statement M
-image-and-back-spec = tie.close (tie.spec returns)
+pub image_and_back_spec : {M : Type 1} → statement M
+image_and_back_spec = tie.close (tie.spec returns)

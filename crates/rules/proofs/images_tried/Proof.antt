@@ -6,5 +6,5 @@ use Rattle.rules.proofs.images_tried.Tie as tie
 returns : tie.Need-returns
 returns c = image_tables
 
-pub images-tried-spec : {M : Type 1} → statement M
-images-tried-spec = tie.close (tie.spec returns)
+pub images_tried_spec : {M : Type 1} → statement M
+images_tried_spec = tie.close (tie.spec returns)

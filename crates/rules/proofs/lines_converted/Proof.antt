@@ -6,5 +6,5 @@ use Rattle.rules.proofs.lines_converted.Tie as tie
 returns : tie.Need-returns
 returns c = convert_tables
 
-pub lines-converted-spec : {M : Type 1} → statement M
-lines-converted-spec = tie.close (tie.spec returns)
+pub lines_converted_spec : {M : Type 1} → statement M
+lines_converted_spec = tie.close (tie.spec returns)

@@ -6,5 +6,5 @@ use Rattle.rules.proofs.lines_read.Tie as tie
 returns : tie.Need-returns
 returns c = lines_evaluate
 
-pub lines-read-spec : {M : Type 1} → statement M
-lines-read-spec = tie.close (tie.spec returns)
+pub lines_read_spec : {M : Type 1} → statement M
+lines_read_spec = tie.close (tie.spec returns)

@@ -16,5 +16,5 @@ returns c h =
     let l = c.before.before.args.b.now in
     image_loaded l (λ i. omega (arith, c.before.shared-slice-known.given i)) ((and-eq-true_iff (formed l) _).0 h).0
 
-pub load-and-back-spec : {M : Type 1} → statement M
-load-and-back-spec = tie.close (tie.spec fresh-requires returns)
+pub load_and_back_spec : {M : Type 1} → statement M
+load_and_back_spec = tie.close (tie.spec fresh-requires returns)

@@ -6,5 +6,5 @@ use Rattle.rules.proofs.moments_passed.Tie as tie
 returns : tie.Need-returns
 returns c = moments_evaluate
 
-pub moments-passed-spec : {M : Type 1} → statement M
-moments-passed-spec = tie.close (tie.spec returns)
+pub moments_passed_spec : {M : Type 1} → statement M
+moments_passed_spec = tie.close (tie.spec returns)

@@ -6,5 +6,5 @@ use Rattle.rules.proofs.number_edges.Tie as tie
 returns : tie.Need-returns
 returns c = edges_hold_lem
 
-pub number-edges-spec : {M : Type 1} → statement M
-number-edges-spec = tie.close (tie.spec returns)
+pub number_edges_spec : {M : Type 1} → statement M
+number_edges_spec = tie.close (tie.spec returns)

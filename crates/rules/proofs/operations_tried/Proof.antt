@@ -6,5 +6,5 @@ use Rattle.rules.proofs.operations_tried.Tie as tie
 returns : tie.Need-returns
 returns c = record { cases = faces_hold; no-image = no_image_evaluates }
 
-pub operations-tried-spec : {M : Type 1} → statement M
-operations-tried-spec = tie.close (tie.spec returns)
+pub operations_tried_spec : {M : Type 1} → statement M
+operations_tried_spec = tie.close (tie.spec returns)

@@ -6,5 +6,5 @@ use Rattle.rules.proofs.schedules_worked_out.Tie as tie
 returns : tie.Need-returns
 returns c = schedule_tables
 
-pub schedules-worked-out-spec : {M : Type 1} → statement M
-schedules-worked-out-spec = tie.close (tie.spec returns)
+pub schedules_worked_out_spec : {M : Type 1} → statement M
+schedules_worked_out_spec = tie.close (tie.spec returns)

@@ -6,5 +6,5 @@ use Rattle.rules.proofs.texts_printed.Tie as tie
 returns : tie.Need-returns
 returns c = text_tables
 
-pub texts-printed-spec : {M : Type 1} → statement M
-texts-printed-spec = tie.close (tie.spec returns)
+pub texts_printed_spec : {M : Type 1} → statement M
+texts_printed_spec = tie.close (tie.spec returns)

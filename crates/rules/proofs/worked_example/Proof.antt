@@ -6,5 +6,5 @@ use Rattle.rules.proofs.worked_example.Tie as tie
 returns : tie.Need-returns
 returns c = worked_example
 
-pub worked-example-spec : {M : Type 1} → statement M
-worked-example-spec = tie.close (tie.spec returns)
+pub worked_example_spec : {M : Type 1} → statement M
+worked_example_spec = tie.close (tie.spec returns)

@@ -12,7 +12,7 @@ abbrev made_of : Event → Choice → Entry
 made_of e c = record { event = e; begins = 0; held = 0; cancelled = false; choice = c }
 
 returns : tie.Need-returns
-returns c = ap₂ made_of c.before.none.ensures c.none2.ensures
+returns c = ap₂ made_of c.before.none.ensures c.none-2.ensures
 
 pub none_spec : {M : Type 1} → statement M
 none_spec = tie.close (tie.spec (λ c κs. search rules) (λ c κs. search rules) returns)

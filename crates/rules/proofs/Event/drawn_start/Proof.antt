@@ -9,5 +9,5 @@ returns : tie.Need-returns
 unfolding drawn_start
 returns c = ap (λ t. dated t c.before.before.args.self) c.moved.ensures
 
-pub drawn-start-spec : {M : Type 1} → statement M
-drawn-start-spec = tie.close (tie.spec (λ c. search rules) (λ c κs. search rules) returns)
+pub drawn_start_spec : {M : Type 1} → statement M
+drawn_start_spec = tie.close (tie.spec (λ c. search rules) (λ c κs. search rules) returns)

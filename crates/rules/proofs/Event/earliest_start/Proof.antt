@@ -12,5 +12,5 @@ returns c =
     let e = c.before.before.before.args.self in
     ap (λ t. dated t e) (c.earlier.ensures ∙ ap (min e.start) c.before.moved.ensures)
 
-pub earliest-start-spec : {M : Type 1} → statement M
-earliest-start-spec = tie.close (tie.spec (λ c. search rules) (λ c κs. search rules) (λ c κs. search rules) returns)
+pub earliest_start_spec : {M : Type 1} → statement M
+earliest_start_spec = tie.close (tie.spec (λ c. search rules) (λ c κs. search rules) (λ c κs. search rules) returns)

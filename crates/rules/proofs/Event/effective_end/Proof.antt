@@ -8,5 +8,5 @@ use Rattle.rules.proofs.Event.effective_end.Tie as tie
 returns : tie.Need-returns
 returns c = ap (λ p. dated p.end c.before.args.self) c.period.ensures
 
-pub effective-end-spec : {M : Type 1} → statement M
-effective-end-spec = tie.close (tie.spec (λ c κs. search rules) returns)
+pub effective_end_spec : {M : Type 1} → statement M
+effective_end_spec = tie.close (tie.spec (λ c κs. search rules) returns)

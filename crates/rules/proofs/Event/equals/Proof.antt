@@ -10,5 +10,5 @@ returns c =
     let ids = c.before.before.before.before.before.before.before.before.before.before.before.before.before.before.before.before.before.before in
     rw ids.equals.ensures
 
-pub equals-spec : {M : Type 1} → statement M
-equals-spec = tie.close (tie.spec (λ c κs. search rules) returns)
+pub equals_spec : {M : Type 1} → statement M
+equals_spec = tie.close (tie.spec (λ c κs. search rules) returns)

@@ -6,7 +6,7 @@ use Rattle.rules.proofs.Event.is_malformed.Tie as tie
 
 returns : tie.Need-returns
 unfolding malformed
-returns c = rw (c.before.before.is-out-of-range.ensures, c.lifted.ensures)
+returns c = rw (c.before.before.is_out_of_range.ensures, c.lifted.ensures)
 
-pub is-malformed-spec : {M : Type 1} → statement M
-is-malformed-spec = tie.close (tie.spec (λ c κs. search rules) (λ c. search rules) (λ c κs. search rules) (λ c. search rules) (λ c. search rules) returns)
+pub is_malformed_spec : {M : Type 1} → statement M
+is_malformed_spec = tie.close (tie.spec (λ c κs. search rules) (λ c. search rules) (λ c κs. search rules) (λ c. search rules) (λ c. search rules) returns)

@@ -23,8 +23,8 @@ returns c =
     let ends = ◌∙◌ {c = effective_end e} end.moved2.ensures (ap (λ t. plus (t + e.duration) e.duration_draw) drawn.moved.ensures) in
     λ i. times (starts i) (ends i) (c.earliest-start.ensures i).time
 
-pub period-spec : {M : Type 1} → statement M
-period-spec =
+pub period_spec : {M : Type 1} → statement M
+period_spec =
     tie.close
     (tie.spec
     (λ c. search rules)

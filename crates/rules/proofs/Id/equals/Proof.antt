@@ -11,5 +11,5 @@ returns c =
     let ids = c.before.before.before.before.args in
     equal_halves ids.self.high ids.self.low ids.other.high ids.other.low (omega (arith, c)) (omega (arith, c))
 
-pub equals-spec : {M : Type 1} → statement M
-equals-spec = tie.close (tie.spec returns)
+pub equals_spec : {M : Type 1} → statement M
+equals_spec = tie.close (tie.spec returns)

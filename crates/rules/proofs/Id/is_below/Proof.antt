@@ -11,5 +11,5 @@ returns c =
     let ids = c.before.before.before.before.before.before.args in
     below_halves ids.self.high ids.self.low ids.other.high ids.other.low (omega (arith, c)) (omega (arith, c))
 
-pub is-below-spec : {M : Type 1} → statement M
-is-below-spec = tie.close (tie.spec returns)
+pub is_below_spec : {M : Type 1} → statement M
+is_below_spec = tie.close (tie.spec returns)

@@ -10,5 +10,5 @@ returns : tie.Need-returns
 unfolding id_number
 returns c = sym (upper_half _ _ (omega (arith, c)))
 
-pub upper-spec : {M : Type 1} → statement M
-upper-spec = tie.close (tie.spec returns)
+pub upper_spec : {M : Type 1} → statement M
+upper_spec = tie.close (tie.spec returns)

@@ -14,5 +14,5 @@ with-entry h = record { clock = 0; count = 0; programs = replicate 8 no_program;
 returns : tie.Need-returns
 returns c = ap with-entry c.none.ensures
 
-pub fresh-spec : {M : Type 1} → statement M
-fresh-spec = tie.close (tie.spec (λ c κs. search rules) returns)
+pub fresh_spec : {M : Type 1} → statement M
+fresh_spec = tie.close (tie.spec (λ c κs. search rules) returns)

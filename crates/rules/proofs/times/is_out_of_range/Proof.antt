@@ -6,7 +6,7 @@ use Rattle.rules.proofs.times.is_out_of_range.Tie as tie
 
 returns : tie.Need-returns
 unfolding out_of_range
-returns c = rw (c.is-drawn2.ensures, c.before.is-drawn.ensures, c.before.before.is-outside2.ensures, c.before.before.before.is-outside.ensures)
+returns c = rw (c.is_drawn-2.ensures, c.before.is_drawn.ensures, c.before.before.is_outside-2.ensures, c.before.before.before.is-outside.ensures)
 
-pub is-out-of-range-spec : {M : Type 1} → statement M
-is-out-of-range-spec = tie.close (tie.spec (λ c κs. search rules) (λ c κs. search rules) (λ c κs. search rules) (λ c κs. search rules) returns)
+pub is_out_of_range_spec : {M : Type 1} → statement M
+is_out_of_range_spec = tie.close (tie.spec (λ c κs. search rules) (λ c κs. search rules) (λ c κs. search rules) (λ c κs. search rules) returns)

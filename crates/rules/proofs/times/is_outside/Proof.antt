@@ -6,5 +6,5 @@ use Rattle.rules.proofs.times.is_outside.Tie as tie
 returns : tie.Need-returns
 returns c = rw c.lifted.ensures
 
-pub is-outside-spec : {M : Type 1} → statement M
-is-outside-spec = tie.close (tie.spec (λ c κs. search rules) (λ c. search rules) (λ c. search rules) returns)
+pub is_outside_spec : {M : Type 1} → statement M
+is_outside_spec = tie.close (tie.spec (λ c κs. search rules) (λ c. search rules) (λ c. search rules) returns)
