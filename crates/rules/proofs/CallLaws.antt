@@ -87,6 +87,7 @@ done s e c z = rw (e, z)
 -- a held event is found under its id
 pub found : (hs : List Entry) → Pairwise ById hs → (h : Entry) → In h hs → find (entry_id h) hs ≡ some h
 unfolding find
+found [] p h m = elim m [ ]
 found (x ∷ xs) p h (inl q) = rw (q, eq-eqb (entry_id x) (entry_id x) refl)
 found (x ∷ xs) p h (inr m) = rw (ne_eqb (entry_id x) (entry_id h) (λ e. let l = p.0 h m in omega arith)) (found xs p.1 h m)
 

@@ -23,6 +23,7 @@ beats ps a b = better (rank_of ps a.event) (rank_of ps b.event)
 -- what a better one claims is taken
 pub taken_has : (ps : List Program) (t : ℕ) (h o : Entry) (c : ℕ) (hs : List Entry) → In o hs → beats ps o h ≡ true → has (claim t o) c ≡ true → has (taken ps t hs h) c ≡ true
 unfolding taken
+taken_has ps t h o c [] m b e = elim m [ ]
 taken_has ps t h o c (x ∷ xs) (inl q) b e = rw (← q, b, has_join, e)
 taken_has ps t h o c (x ∷ xs) (inr m) b e = rw (has_join, taken_has ps t h o c xs m b e, or-true)
 

@@ -114,6 +114,7 @@ idle_for_lem c n h e =
 -- nothing begins or ends at the next second
 idle_next : (c : ℕ) (hs : List Entry) → busy (suc c) hs ≡ false → All (λ h. c < end_of h) hs → All (Idle c 1) hs
 unfolding busy
+idle_next c [] e l h m = elim m [ ]
 idle_next c (x ∷ xs) e l h m =
     let p = either_false (eqb x.begins (suc c)) (eqb (end_of x) (suc c) || busy (suc c) xs) e in
     let q = either_false (eqb (end_of x) (suc c)) (busy (suc c) xs) p.1 in

@@ -146,6 +146,7 @@ module _ {A B : Type 0} where
   in_map f y (x ∷ xs) (inr m) = let r = in_map f y xs m in (r.0, inr r.1, r.2)
 
   pub map_in : (f : A → B) (x : A) (xs : List A) → In x xs → In (f x) (map f xs)
+  map_in f x [] m = elim m [ ]
   map_in f x (y ∷ ys) (inl e) = inl (ap f e)
   map_in f x (y ∷ ys) (inr m) = inr (map_in f x ys m)
 
@@ -231,6 +232,8 @@ module _ {A : Type 0} where
       go false e = ap suc e
 
   pub in_set : (x a : A) (n : ℕ) (l : List A) → In x (set l n a) → (x ≡ a) ⊎ In x l
+  in_set x a zero [] m = elim m [ ]
+  in_set x a (suc n) [] m = elim m [ ]
   in_set x a zero (y ∷ ys) (inl e) = inl e
   in_set x a zero (y ∷ ys) (inr m) = inr (inr m)
   in_set x a (suc n) (y ∷ ys) (inl e) = inr (inl e)
@@ -254,10 +257,13 @@ module _ {A : Type 0} where
       (λ z m. ⊎_elim (λ n. h.0 z n) (λ n. f x (inl refl) z n) (in_append z xs ys m), asc_append R xs ys h.1 k (λ y m. f y (inr m)))
 
   pub in_take : (x : A) (n : ℕ) (xs : List A) → In x (take n xs) → In x xs
+  in_take x zero xs m = elim m [ ]
+  in_take x (suc n) [] m = elim m [ ]
   in_take x (suc n) (y ∷ xs) (inl e) = inl e
   in_take x (suc n) (y ∷ xs) (inr m) = inr (in_take x n xs m)
 
   pub in_replicate : (x a : A) (n : ℕ) → In x (replicate n a) → x ≡ a
+  in_replicate x a zero m = elim m [ ]
   in_replicate x a (suc n) (inl e) = e
   in_replicate x a (suc n) (inr m) = in_replicate x a n m
 

@@ -26,6 +26,7 @@ programs_length [] = refl
 programs_length (a ∷ xs) = length-set (programs_of xs) a.number (program_of a.primacy a.defaults) ∙ programs_length xs
 
 lookup : (xs : List Added) → OnceEach xs → (a : Added) → In a xs → program_at (programs_of xs) a.number ≡ program_of a.primacy a.defaults
+lookup [] h a m = elim m [ ]
 lookup (x ∷ xs) h a (inl q) = rw q (get_or-set_same (programs_of xs) x.number (program_of x.primacy x.defaults) no_program (omega (arith, programs_length xs, h.0)))
 lookup (x ∷ xs) h a (inr m) =
     let e = lookup xs h.2 a m in
@@ -73,6 +74,7 @@ in_cancellations (b ∷ bs) x m = go b.cancelled refl (in_cancellations bs x) m
     go (some k) e ih (inr m) = let r = ih m in (r.0, inr r.1, r.2, r.3)
 
 pub cancellations_in_lem : (bs : List Brought) (b : Brought) → In b bs → (k : ℕ) → b.cancelled ≡ some k → In (record { event = b.event; clock = k }) (cancellations_in bs)
+cancellations_in_lem [] b m k e = elim m [ ]
 cancellations_in_lem (x ∷ bs) b (inl q) k e =
     let d : x.cancelled ≡ some k = ap {B = Option ℕ} (λ c. c.cancelled) (sym q) ∙ e in
     rw (d, q) (inl refl)

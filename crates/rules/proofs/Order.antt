@@ -126,6 +126,7 @@ module _ (H K : History) (v : Inv H) (w : Inv K) (same : SameStarts H K) where
 -- the first that holds a control is the one that does
 holder_held : (c : ℕ) (else : Value) (hs : List Entry) → OneHolder hs → (h : Entry) → In h hs → governs c h ≡ true → holder_in c hs else ≡ holder (entry_id h)
 unfolding holder_in
+holder_held c else [] one h m e = elim m [ ]
 holder_held c else (x ∷ xs) one h (inl q) e = rw (← q, e)
 holder_held c else (x ∷ xs) one h (inr m) e = go (governs c x) refl (holder_held c else xs one.1 h m e)
   where

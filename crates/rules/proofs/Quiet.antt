@@ -23,6 +23,7 @@ use Rattle.rules.proofs.Holders.{has_taken}
 
 -- two that hold one control are one
 pub same_holder : (hs : List Entry) → OneHolder hs → (h o : Entry) → In h hs → In o hs → (c : ℕ) → has h.held c ≡ true → has o.held c ≡ true → h ≡ o
+same_holder [] one h o m _ c e d = elim m [ ]
 same_holder (x ∷ xs) one h o (inl p) (inl q) c e d = p ∙ sym q
 same_holder (x ∷ xs) one h o (inl p) (inr n) c e d = absurd (one.0 o n c (rw p at e) d)
 same_holder (x ∷ xs) one h o (inr m) (inl q) c e d = absurd (one.0 h m c (rw q at d) e)

@@ -44,6 +44,7 @@ known_in e (b ∷ bs) k = go (same_event b.event e) refl k (known_in e bs)
     go false p k ih = let r = ih k in (r.0, inr r.1, r.2)
 
 in_known : (e : Event) (bs : List Brought) (b : Brought) → In b bs → same_event b.event e ≡ true → known e bs ≡ true
+in_known e [] b m d = elim m [ ]
 in_known e (x ∷ bs) b (inl q) d = rw (sym (ap (λ (b : Brought). same_event b.event e) q) ∙ d)
 in_known e (x ∷ bs) b (inr m) d = rw (in_known e bs b m d, or-true)
 
