@@ -2,12 +2,8 @@
 use mathlib.Core.Path.{refl}
 use Rattle.rules.specs.Records.{cut}
 use Rattle.rules.specs.Sound.{carried, held_since_start, none_if_cancelled}
-use Rattle.sound.proofs.is_rightly_held.Statement.{statement}
-use Rattle.sound.proofs.is_rightly_held.Tie as tie
+use Rattle.sound.proofs.is_rightly_held.Goals as goal
 
-returns : tie.Need-returns
+pub returns : goal.returns
 unfolding cut carried held_since_start none_if_cancelled
 returns c = refl
-
-pub is-rightly-held-spec : {M : Type 1} → statement M
-is-rightly-held-spec = tie.close (tie.spec returns)

@@ -9,8 +9,7 @@ use Rattle.rules.specs.Clauses.{ImageKept}
 use Rattle.powercut.specs.PowerCut.{Fits, GoesOn}
 use Rattle.powercut.proofs.Fitting.{storable_after, stored}
 use Rattle.powercut.proofs.Host.{host}
-use Rattle.powercut.proofs.power_cut.Statement.{statement}
-use Rattle.powercut.proofs.power_cut.Tie as tie
+use Rattle.powercut.proofs.power_cut.Goals as goal
 
 goes_on : (r s : Schedule) → r ≡ s → GoesOn r s
 goes_on r s e = record { states = λ ds. ap (λ x. run x ds) e; rows = λ ds. ap (λ x. joined x ds) e; calls = λ ds c. ap (λ x. call (run x ds) c) e }
@@ -18,8 +17,5 @@ goes_on r s e = record { states = λ ds. ap (λ x. run x ds) e; rows = λ ds. ap
 kept : (cs : List Call) → All Fits cs → ImageKept (after cs)
 kept cs f = stored (after cs) (storable_after cs f)
 
-returns : tie.Need-returns
+pub returns : goal.returns
 returns c = record { stored = kept; goes_on = λ cs f. goes_on _ _ (kept cs f).back; host = host }
-
-pub power-cut-spec : {M : Type 1} → statement M
-power-cut-spec = tie.close (tie.spec returns)

@@ -1,0 +1,8 @@
+-- The code is the definition.
+use borrow.Author.Rules.{rules}
+use Rattle.rules.specs.Records.{cut}
+use Rattle.sound.proofs.is_before.Goals as goal
+
+pub returns : goal.returns
+unfolding cut
+returns c = rw c.is_below.ensures

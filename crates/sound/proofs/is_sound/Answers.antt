@@ -1,0 +1,33 @@
+-- Each rule is tested by the function for it. That the arrays have their places is known of every schedule given by value.
+use mathlib.Core.Path.{◌≡◌}
+use mathlib.Core.Bool.{true, and-false}
+use borrow.Author.Rules.{rules}
+use borrow.Author.Tests.{leb-true}
+use lib.Dec.{leb}
+use Rattle.rules.specs.Records.{last_clock, most_events}
+use Rattle.rules.specs.Sound.{within_limits, sound}
+use Rattle.rules.proofs.Tests.{each_true}
+use Rattle.rules.proofs.Lengths.{whole_always}
+use Rattle.sound.proofs.is_sound.Goals as goal
+
+pub has_sound_entries-requires : goal.has_sound_entries-requires
+has_sound_entries-requires c =
+    let s = c.args.s in
+    leb-true s.count most_events (each_true (leb s.clock last_clock) (leb s.count most_events) c.if-s.true).1
+
+pub returns-then-s : goal.returns-then-s
+unfolding sound within_limits
+returns-then-s c =
+    let s = c.args.s in
+    let within : within_limits s ≡ true = c.if-s.true in
+    rw (
+      c.has_sound_entries.ensures,
+      c.has_unused_rest.ensures,
+      c.has_sound_programs.ensures,
+      whole_always s _ c.well_formed.0,
+      within,
+    )
+
+pub returns : goal.returns
+unfolding sound within_limits
+returns c = simp (c.if-s.false, and-false)
