@@ -8,11 +8,9 @@ use native.Mathlib.Omega.{arith}
 use lib.Dec.{ltb, leb}
 use lib.ListN.{length, take, get_or, set, length-append}
 use lib.Seq.{take-suc, sets, sets-eq, drop-drop}
-use denote.Enum.Declared.{tag_of}
-use types.Run.{OneOf, miss}
+use Rattle.rules.specs.declared.Id.{Id}
 use Rattle.rules.specs.declared.Answer.{Answer}
 use Rattle.rules.specs.declared.Answer.TheVariants.{Refused, Code, Count, Holder, Default, Nobody}
-use Rattle.rules.specs.contracts.Answer.{the_type as answers}
 use Rattle.rules.specs.Records.{id_size}
 use Rattle.rules.specs.Bytes.{read, row_size}
 use Rattle.rules.specs.Calls.{value_of}
@@ -73,21 +71,21 @@ id_within i w p = omega (arith, p.end, length-append (id_digits i) w, decimal_le
 
 -- Answers that give no text.
 
-pub no_code : (t i : ℕ) (a : Answer) → OneOf (0 ∷ 2 ∷ 3 ∷ 4 ∷ 5 ∷ []) (tag_of answers a) → code_text t i (value_of a) ≡ []
+pub no_code : (t i : ℕ) (a : Answer) → ((k : ℕ) → a ≡ Code k → ⊥) → code_text t i (value_of a) ≡ []
 no_code t i (Refused n) h = refl
-no_code t i (Code k) h = absurd (miss (0 ∷ 2 ∷ 3 ∷ 4 ∷ 5 ∷ []) 1 tt h)
+no_code t i (Code k) h = absurd (h k refl)
 no_code t i (Count n) h = refl
 no_code t i (Holder j) h = refl
 no_code t i (Default p) h = refl
 no_code t i Nobody h = refl
 
-pub no_question : (c : ℕ) (a : Answer) → OneOf (0 ∷ 1 ∷ 2 ∷ []) (tag_of answers a) → ask_text c (value_of a) ≡ []
-no_question c (Refused n) h = refl
-no_question c (Code k) h = refl
-no_question c (Count n) h = refl
-no_question c (Holder j) h = absurd (miss (0 ∷ 1 ∷ 2 ∷ []) 3 tt h)
-no_question c (Default p) h = absurd (miss (0 ∷ 1 ∷ 2 ∷ []) 4 tt h)
-no_question c Nobody h = absurd (miss (0 ∷ 1 ∷ 2 ∷ []) 5 tt h)
+pub no_question : (c : ℕ) (a : Answer) → ((j : Id) → a ≡ Holder j → ⊥) → ((p : ℕ) → a ≡ Default p → ⊥) → (a ≡ Nobody → ⊥) → ask_text c (value_of a) ≡ []
+no_question c (Refused n) h d n' = refl
+no_question c (Code k) h d n' = refl
+no_question c (Count n) h d n' = refl
+no_question c (Holder j) h d n' = absurd (h j refl)
+no_question c (Default p) h d n' = absurd (d p refl)
+no_question c Nobody h d n' = absurd (n' refl)
 
 -- Rows one behind the other.
 

@@ -12,25 +12,25 @@ use Rattle.frame.proofs.encode.Statement.{statement}
 use Rattle.frame.proofs.encode.Tie as tie
 
 -- the size is that of the frame
-is-size : (sized : tie.After-size-of) → sized.type_size.result ≡ size_of (kind_of sized.before.before.before.args.f)
-is-size sized = sized.type_size.ensures ∙ ap size_of sized.before.kind-of.ensures
+is-size : (sized : tie.After-size_of-size) → sized.size_of-size.result ≡ size_of (kind_of sized.before.before.before.args.f)
+is-size sized = sized.size_of-size.ensures ∙ ap size_of sized.before.kind_of-kind.ensures
 
-mul-if1 : tie.Need-overflow-mul-if1
-mul-if1 c = omega (arith, size_bound id_size c.before.kind-of.result, c.type_size.ensures)
+mul-if1 : tie.Need-overflow_mul-size
+mul-if1 c = omega (arith, size_bound id_size c.before.kind_of-kind.result, c.size_of-size.ensures)
 
-returns : tie.Need-returns
+returns : tie.Need-returns-then-out-size
 returns c =
     let a = c.before.before.before.before.args in
-    encoded_short a.f a.out.now _ (ap (◌*◌ 2) (is-size c.before)) c.if1.true
+    encoded_short a.f a.out.now _ (ap (◌*◌ 2) (is-size c.before)) c.if-out-size.true
 
-put-pairs-requires : tie.Need-put-pairs-requires
+put-pairs-requires : tie.Need-put_pairs-requires
 put-pairs-requires c κs =
     let fields = c.before.before.before in
     let kind = fields.before.before.before in
     let room = kind.before.before in
-    record { there = omega (arith, size_bound id_size room.before.before.kind-of.result, room.before.type_size.ensures); room = room.if1.false }
+    record { there = omega (arith, size_bound id_size room.before.before.kind_of-kind.result, room.before.size_of-size.ensures); room = room.if-out-size.false }
 
-returns-2 : tie.Need-returns-2
+returns-2 : tie.Need-returns
 unfolding encoded
 returns-2 c =
     let pairs = c.before.before in
@@ -39,11 +39,11 @@ returns-2 c =
     let room = kind.before.before in
     let size = is-size room.before in
     let a = room.before.before.before.before.args in
-    let bytes = frame_stands a.f _ refl (rw room.before.before.kind-of.ensures at kind.put.ensures) fields.put2.ensures in
-    encoded_whole a.f a.out.now _ (ap (◌*◌ 2) size) room.if1.false (rw (size, bytes) at pairs.put-pairs.ensures)
+    let bytes = frame_stands a.f _ refl (rw room.before.before.kind_of-kind.ensures at kind.put.ensures) fields.put-2.ensures in
+    encoded_whole a.f a.out.now _ (ap (◌*◌ 2) size) room.if-out-size.false (rw (size, bytes) at pairs.put_pairs.ensures)
 
-pub encode-spec : {M : Type 1} → statement M
-encode-spec =
+pub encode_spec : {M : Type 1} → statement M
+encode_spec =
     tie.close
     (tie.spec
     (λ c κs. search rules)

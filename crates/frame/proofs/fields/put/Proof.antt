@@ -10,36 +10,36 @@ use Rattle.frame.specs.Encoded.{field_bytes}
 use Rattle.frame.proofs.fields.put.Statement.{statement}
 use Rattle.frame.proofs.fields.put.Tie as tie
 
-returns : tie.Need-returns
+returns : tie.Need-returns-in-Event
 unfolding field_bytes
 returns c =
     let written = c.before.before in
-    rw written.before.before.before.f.given.1 (written.put-event.ensures ∙ put_event_inside _ _ _ (omega arith))
+    rw written.before.before.before.f-1.given.1 (written.put_event.ensures ∙ put_event_inside _ _ _ (omega arith))
 
-returns-2 : tie.Need-returns-2
+returns-2 : tie.Need-returns-in-Clock
 unfolding field_bytes
 returns-2 c =
     let written = c.before.before in
-    rw written.before.before.before.f5.given.1 (written.put8.ensures ∙ put_inside _ _ _ _ (omega arith))
+    rw written.before.before.before.f-in-Clock-1.given.1 (written.put8.ensures ∙ put_inside _ _ _ _ (omega arith))
 
-returns-3 : tie.Need-returns-3
+returns-3 : tie.Need-returns-in-Program
 unfolding field_bytes
 returns-3 c =
     let written = c.before.before in
-    rw written.before.before.before.f6.given.1 written.put-program.ensures
+    rw written.before.before.before.f-in-Program-1.given.1 written.put_program.ensures
 
-returns-4 : tie.Need-returns-4
+returns-4 : tie.Need-returns-in-Ask
 unfolding field_bytes
 returns-4 c =
     let written = c.before.before in
-    rw written.before.before.before.f7.given.1 (written.put.ensures ∙ put_inside _ _ _ _ (omega arith))
+    rw written.before.before.before.f-in-Ask-1.given.1 (written.put.ensures ∙ put_inside _ _ _ _ (omega arith))
 
 -- whichever of the three kinds with an id alone it is, that is its field
-id-alone : (kind : tie.At-match-branch) → field_bytes kind.before.before.args.f ≡ big id_size (id_number kind.match.id)
+id-alone : (kind : tie.In-Cancel) → field_bytes kind.before.before.args.f ≡ big id_size (id_number kind.in-Event.id)
 unfolding field_bytes
-id-alone kind = ⊎_elim (λ w. rw (w.1.given.1, w.3)) (⊎_elim (λ w. rw (w.1.given.1, w.3)) (λ w. rw (w.1.given.1, w.3))) kind.match.branch
+id-alone kind = ⊎_elim (λ w. rw (w.1.given.1, w.3)) (⊎_elim (λ w. rw (w.1.given.1, w.3)) (λ w. rw (w.1.given.1, w.3))) kind.in-Event.branch
 
-returns-5 : tie.Need-returns-5
+returns-5 : tie.Need-returns-in-Cancel
 returns-5 c =
     let written = c.before.before in
     rw (id-alone written.before.before) (written.put_id.ensures ∙ put_inside _ _ _ _ (omega arith))

@@ -14,14 +14,14 @@ bit : (k : ℕ) (b : Bool) → (bool_byte b ≤ 1) × (bool_byte b * k ≡ cond 
 bit k true = (omega arith, omega arith)
 bit k false = (omega arith, omega arith)
 
-abbrev choice : tie.After-struct-known3 → Choice
+abbrev choice : tie.After-struct_known-3-1 → Choice
 choice c = c.before.before.before.args.c
 
 returns : tie.Need-returns
 returns c = omega (arith, bit 1 (choice c).out, bit 2 (choice c).was_in, bit 4 (choice c).was_out)
 
-pub choice-byte-spec : {M : Type 1} → statement M
-choice-byte-spec =
+pub choice_byte_spec : {M : Type 1} → statement M
+choice_byte_spec =
     tie.close
     (tie.spec
     (λ c. search rules)

@@ -1,0 +1,13 @@
+-- The first two bytes are the first pair.
+use mathlib.Core.Path.{sym}
+use native.Mathlib.Omega.{arith}
+use borrow.Author.Rules.{rules}
+use Rattle.frame.proofs.Pairs.{no_pair, first_pair}
+use Rattle.frame.proofs.digits.first.Goals as goal
+
+pub returns-then-line-lt2 : goal.returns-then-line-lt2
+returns-then-line-lt2 c = sym (no_pair c.args.line.now (omega arith))
+
+pub returns : goal.returns
+returns c =
+    rw (c.nibble-2.ensures, c.nibble.ensures) (sym (first_pair c.args.line.now (omega arith)))
