@@ -38,7 +38,7 @@ FitsFrame (frame.Ask c) = c < 256 ^ 1
 FitsFrame (frame.OptOut i) = IdFits i
 FitsFrame (frame.OptIn i) = IdFits i
 
-pub frame_fits : (f : Frame) (vs : List Val) → Owned frames.the_field f vs → FitsFrame f
+pub frame_fits : (f : Frame) (vs : List Val) → Owned frames.the_row f vs → FitsFrame f
 frame_fits (frame.Event e) vs s = search rules
 frame_fits (frame.Cancel i) vs s = search rules
 frame_fits (frame.Clock t) vs s = search rules

@@ -8,6 +8,7 @@ use Rattle.frame.specs.declared.Width.{Width}
 use Rattle.frame.specs.declared.Width.TheVariants.{Short, Long}
 use Rattle.frame.specs.Decoded.{width_of, size_in}
 use Rattle.frame.proofs.ByKind.{above}
+use Rattle.frame.proofs.size_of.Goals.{in-Short, in-Long}
 use Rattle.frame.proofs.size_of.Goals as goal
 
 -- the number of a width: two digits a kind, kind 0 the last
@@ -35,8 +36,8 @@ byte Long = up-to-7 (λ k. sizes Long / 2 ^ (8 * k) % 256 ≡ size_in (width_of 
 pub returns : goal.returns
 returns c =
     let a = c.args in
-    let is : c.in-Short.sizes ≡ sizes a.width =
-    ⊎_elim (λ w. w.2 ∙ ap sizes (sym w.1.given.1)) (λ w. w.2 ∙ ap sizes (sym w.1.given.1)) c.in-Short.branch in
+    let is : c.match-width.sizes ≡ sizes a.width =
+    elim c.match-width.branch [ in-Short w ↦ w.sizes-is ∙ ap sizes (sym w.in-Short.is) | in-Long w ↦ w.sizes-is ∙ ap sizes (sym w.in-Long.is) ] in
     rw is (byte a.width a.kind (omega (arith, c.if-kind-gt7.false)))
 
 pub returns-then-kind-gt7 : goal.returns-then-kind-gt7

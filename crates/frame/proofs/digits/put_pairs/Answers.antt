@@ -27,9 +27,6 @@ loop-i-preserved c =
     let l = c.loop-i in
     (omega arith, rw (c.digit_of-in-loop-i.ensures, c.digit_of.ensures) (one_pair c.args.bytes.now l.i (omega arith) (omega arith) l.invariant.1))
 
-pub shape_of-out : goal.shape_of-out
-shape_of-out c = same_size c.loop-i.invariant.1
-
 pub returns : goal.returns
 returns c =
     let l = c.loop-i in

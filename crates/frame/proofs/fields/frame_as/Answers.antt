@@ -47,4 +47,4 @@ unfolding frame_as_in
 returns-in-7 c = rw (c.in-7.is, c.get_id-in-7.ensures ∙ id_inside _ _ (omega arith))
 
 pub returns-in_default : goal.returns-in_default
-returns-in_default c = sym (frame_none id_size _ (no_kind c.in_default.rest) _)
+returns-in_default c = sym (frame_none id_size _ (no_kind c.in_default.in_default-own.rest) _)
