@@ -1,9 +1,9 @@
 -- A line over what stands in a buffer, and one that does not fit.
 use mathlib.Core.Path.{◌≡◌, refl, sym, ap, ◌∙◌}
 use Prim.Native.Nat.{ℕ, ◌+◌, ◌-◌, ◌≤◌}
-use mathlib.Core.Bool.{Bool, true, false, not}
+use mathlib.Core.Bool.{Bool, true, false}
 use mathlib.Core.List.{List}
-use borrow.Author.Tests.{not-true, not-false, leb-true, leb-false, le-ltb, lt-ltb}
+use borrow.Author.Tests.{leb-true, leb-false, le-ltb, lt-ltb}
 use lib.Dec.{leb, eqb}
 use native.Mathlib.Omega.{arith}
 use lib.ListN.{length, length-append, length-drop}
@@ -15,17 +15,17 @@ use Rattle.convert.specs.Turns.{refused_line, written_at, turned_at}
 
 -- n is the line's length, and `room` says whether there is room for so many
 module _ (l : List ℕ) (at : ℕ) (out : List ℕ) (n : ℕ) (is : n ≡ length l) {room : Bool} (tells : room ≡ leb (at + n) (length out)) where
-  pub too_long : not room ≡ true → refused_line 13 out ≡ written_at l at out
+  pub too_long : room ≡ false → refused_line 13 out ≡ written_at l at out
   unfolding written_at
-  too_long h = rw (← is, ← tells, not-true room h)
+  too_long h = rw (← is, ← tells, h)
 
-  pub fits : not room ≡ false → at + n ≤ length out
-  fits h = leb-true (at + n) (length out) (sym tells ∙ not-false room h)
+  pub fits : room ≡ true → at + n ≤ length out
+  fits h = leb-true (at + n) (length out) (sym tells ∙ h)
 
-  pub all_written : not room ≡ false → {new : List ℕ} → new ≡ over_at at l out → record { number = 0; value = count n; bytes = new } ≡ written_at l at out
+  pub all_written : room ≡ true → {new : List ℕ} → new ≡ over_at at l out → record { number = 0; value = count n; bytes = new } ≡ written_at l at out
   unfolding written_at
   all_written h {new} e =
-      let long : leb (at + length l) (length out) ≡ true = ap (λ k. leb (at + k) (length out)) (sym is) ∙ sym tells ∙ not-false room h in
+      let long : leb (at + length l) (length out) ≡ true = ap (λ k. leb (at + k) (length out)) (sym is) ∙ sym tells ∙ h in
       rw (long, e, is)
 
 -- how long a turned line is

@@ -1,31 +1,29 @@
 -- The id of a frame's line as a number, and the digits of its upper half.
 use mathlib.Core.Path.{◌≡◌, refl, sym, ap, ◌∙◌}
 use Prim.Native.Nat.{ℕ, zero, suc, ◌+◌, ◌*◌, ◌^◌, ◌<◌, ◌≤◌}
-use mathlib.Core.Bool.{Bool, true, false, cond, not, ◌&&◌}
+use mathlib.Core.Bool.{Bool, true, false, not, ◌&&◌}
 use mathlib.Core.List.{List, [], ◌∷◌}
 use mathlib.Core.Option.{some}
 use native.Mathlib.Nat.{pow-le-pow_right, mul-pos}
 use native.Mathlib.Omega.{arith}
-use borrow.Author.Tests.{le-leb, lt-leb, eq-eqb, ne_eqb, eqb-true, eqb-false}
-use borrow.Table.Steps.{cases}
+use borrow.Author.Tests.{le-leb, lt-leb, ne_eqb, eqb-true, eqb-false}
 use lib.Dec.{leb, eqb}
-use lib.ListN.{length, get_or, take, drop}
+use lib.ListN.{length, get_or, take}
 use Rattle.rules.specs.declared.Frame.{Frame}
-use Rattle.rules.specs.declared.Line.{Line}
-use Rattle.rules.specs.declared.Line.TheVariants.{Good, Bad}
+use Rattle.rules.specs.declared.Line.TheVariants.{Good}
 use Rattle.rules.specs.Lists.{each}
 use Rattle.rules.specs.Records.{half_size, id_size, half_limit, id_number, id_from}
 use Rattle.rules.specs.Bytes.{read, event_in}
 use Rattle.rules.specs.Frames.{event_frame_in, digit, paired, unhex, line_in}
 use Rattle.rules.specs.Converted.{frame_id, line_id}
 use Rattle.rules.proofs.IdLaws.{number_id}
-use Rattle.rules.proofs.Numbers.{Bytes, read_drop, read_below}
+use Rattle.rules.proofs.Numbers.{read_drop, read_below}
 use Rattle.octets.proofs.Joins.{read_join}
 use Rattle.frame.specs.Decoded.{size_in, frame_as_in}
 use Rattle.frame.specs.Encoded.{hex}
 use Rattle.frame.proofs.Fronts.{read_one}
-use Rattle.frame.proofs.Pairs.{hex_digit, paired_more, bytes_unhex, length_unhex}
-use Rattle.frame.proofs.ByKind.{by_kind, size_bound, frame_none, frame_by_kind}
+use Rattle.frame.proofs.Pairs.{hex_digit, paired_more, bytes_unhex}
+use Rattle.frame.proofs.ByKind.{by_kind, size_bound, frame_none}
 use Rattle.frame.proofs.Ends.{frame_line}
 use Rattle.convert.specs.Turns.{upper_zero}
 

@@ -3,7 +3,7 @@ use Rattle.std.specs.Prelude.{◌≡◌, ◌↔◌, ℕ, ◌≤◌, List}
 use Rattle.std.proofs.Math.Option.{none, some}
 use Rattle.rules.specs.declared.Frame.{Frame}
 use Rattle.rules.specs.declared.Line.TheVariants.{Good, Bad}
-use Rattle.rules.specs.Records.{half_size, id_size, half_limit}
+use Rattle.rules.specs.Records.{half_size, half_limit}
 use Rattle.rules.specs.Frames.{line_in, line_of}
 use Rattle.rules.specs.Printed.{output_in, output}
 use Rattle.rules.specs.Converted.{frame_id, Turned, lengthened, shortened, converted}

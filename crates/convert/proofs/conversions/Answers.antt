@@ -4,8 +4,7 @@ use Rattle.convert.specs.Recorded.{Conversions}
 use Rattle.convert.proofs.Shapes.{turned_without}
 use Rattle.convert.proofs.Laws.{lengthen_refuses, shorten_refuses, shorten_too_wide, long_already, short_already, and_back, and_forth, lengthened_frame, shortened_frame}
 use Rattle.convert.proofs.Texts.{schedules}
-use Rattle.convert.proofs.conversions.Statement.{statement}
-use Rattle.convert.proofs.conversions.Tie as tie
+use Rattle.convert.proofs.conversions.Goals as goal
 
 conversions : Conversions
 conversions =
@@ -13,8 +12,8 @@ conversions =
       lengthen_refuses = lengthen_refuses;
       shorten_refuses = shorten_refuses;
       shorten_too_wide = shorten_too_wide;
-      lengthen-passes = turned_without Long;
-      shorten-passes = turned_without Short;
+      lengthen_passes = turned_without Long;
+      shorten_passes = turned_without Short;
       long_already = long_already;
       short_already = short_already;
       and_back = and_back;
@@ -24,8 +23,5 @@ conversions =
       schedules = schedules;
     }
 
-returns : tie.Need-returns
+pub returns : goal.returns
 returns c = conversions
-
-pub conversions-spec : {M : Type 1} → statement M
-conversions-spec = tie.close (tie.spec returns)

@@ -1,0 +1,24 @@
+-- What was moved stands at the front, and what is still to be moved where it was.
+use mathlib.Core.Path.{◌≡◌, refl, sym, ap, ◌∙◌}
+use Prim.Native.Nat.{ℕ, suc, ◌+◌, ◌-◌, ◌<◌, ◌≤◌}
+use mathlib.Core.List.{List}
+use native.Mathlib.Omega.{arith}
+use borrow.Author.Rules.{rules}
+use lib.ListN.{length, get_or, take, drop, set, length-set, length-drop, take-append-drop}
+use lib.Seq.{length-take-le, take-suc, take-suc-set, drop-set-lt, drop-drop, get_or-drop}
+use Rattle.rules.specs.Lists.{over}
+use Rattle.input.specs.Kept.{most_kept}
+use Rattle.input.proofs.Kept.{kept_none, kept_beyond, kept_some}
+use Rattle.input.proofs.keep.Given as goal
+
+-- the first n bytes from a place on stand at the front, and behind them all is as it was
+pub record Shifted (old new : List ℕ) (from n : ℕ) : Type 0 where
+  pub size : length new ≡ length old
+  pub front : take n new ≡ take n (drop from old)
+  pub rest : drop n new ≡ drop n old
+
+abbrev pub invariant-loop-n : goal.invariant-loop-n
+invariant-loop-n l = (l.n ≤ most_kept) × (l.from + l.n ≤ l.to) × (l.to ≤ length l.initial.buffer) × Shifted l.initial.buffer l.buffer l.from l.n
+
+abbrev pub decreases-loop-n : goal.decreases-loop-n
+decreases-loop-n l = most_kept - l.n

@@ -1,0 +1,11 @@
+-- One turn fewer if there is more; of no turns none is left.
+use mathlib.Core.Path.{refl}
+use borrow.Author.Rules.{rules}
+use Rattle.input.proofs.Kept.{no_turn}
+use Rattle.input.proofs.left.Goals as goal
+
+pub returns-then-turns-eq0 : goal.returns-then-turns-eq0
+returns-then-turns-eq0 c = no_turn c.args.more c.if-turns-eq0.true
+
+pub returns-then-more : goal.returns-then-more
+returns-then-more c = rw c.if-more.true refl
