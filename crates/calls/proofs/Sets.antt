@@ -122,10 +122,12 @@ places_length (suc n) = length-append (places_to n) (n ∷ []) ∙ omega (arith,
 
 pub place_below : (n i : ℕ) → In i (places_to n) → i < n
 unfolding places_to
+place_below zero i m = elim m [ ]
 place_below (suc n) i m = ⊎_elim (λ q. omega (arith, place_below n i q)) (λ q. ⊎_elim (λ e. omega arith) (λ z. absurd z) q) (in_append i (places_to n) (n ∷ []) m)
 
 place_at : (n i : ℕ) → i < n → get_or (places_to n) i 0 ≡ i
 unfolding places_to
+place_at zero i l = elim l [ ]
 place_at (suc n) i l = go (eqb i n) refl (λ q. place_at n i q)
   where
     go : (b : Bool) → eqb i n ≡ b → (i < n → get_or (places_to n) i 0 ≡ i) → get_or (places_to n ++ (n ∷ [])) i 0 ≡ i
@@ -155,6 +157,7 @@ keep_places p n (suc d) f =
 first_place : (p q : ℕ → Bool) (i : ℕ) → p i ≡ true → ((j : ℕ) → j < i → p j ≡ false) → q i ≡ false → ((j : ℕ) → (j ≡ i → ⊥) → q j ≡ p j)
     → (m : ℕ) → i < m → keep p (places_to m) ≡ i ∷ keep q (places_to m)
 unfolding places_to
+first_place p q i a b c d zero l = elim l [ ]
 first_place p q i a b c d (suc m) l =
     keep_append p (places_to m) (m ∷ []) ∙ ⊎_elim at_last (before (λ z. first_place p q i a b c d m z)) (same m i) ∙ ap (◌∷◌ i) (sym (keep_append q (places_to m) (m ∷ [])))
   where

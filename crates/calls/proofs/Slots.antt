@@ -28,6 +28,7 @@ at_in d (x ∷ xs) (suc k) l = inr (at_in d xs k (omega arith))
 
 -- and what is in it stands at a place
 pub in_at : {A : Type 0} (d : A) (xs : List A) (x : A) → In x xs → (k : ℕ) × (k < length xs) × (get_or xs k d ≡ x)
+in_at {A = A} d [] x m = elim m [ ]
 in_at d (y ∷ ys) x (inl e) = (0, omega arith, sym e)
 in_at d (y ∷ ys) x (inr m) = let r = in_at d ys x m in (suc r.0, omega (arith, r.1), r.2)
 

@@ -1,5 +1,5 @@
 -- Where a line ends: at its line feed, or where the text ends. A frame's line has no line feed in it.
-use mathlib.Core.Path.{◌≡◌, refl, sym, ap, ◌∙◌}
+use mathlib.Core.Path.{◌≡◌, refl, sym, ap, ◌∙◌, subst}
 use mathlib.Core.Logic.{◌⊎◌, inl, inr}
 use Prim.Native.Nat.{ℕ, zero, suc, ◌+◌, ◌-◌, ◌*◌, ◌<◌, ◌≤◌}
 use mathlib.Core.Bool.{Bool, true, false, cond, ◌&&◌, false≢true}
@@ -15,7 +15,7 @@ use Rattle.rules.specs.declared.Frame.{Frame}
 use Rattle.rules.specs.declared.Line.TheVariants.{Good, Bad}
 use Rattle.rules.specs.Frames.{digit, paired, unhex, frame_in, line_in}
 use Rattle.rules.specs.Printed.{lines_of}
-use Rattle.frame.specs.Ends.{longer, ended_of, up_to, likely_end}
+use Rattle.frame.specs.Ends.{longer, ended_of, up_to, likely_end, LikelyEnd}
 use Rattle.frame.specs.Decoded.{size_in, frame_as_in}
 use Rattle.frame.proofs.Pairs.{paired_more, length_unhex, first_pair}
 use Rattle.frame.proofs.ByKind.{no_size, frame_by_kind}
@@ -201,12 +201,7 @@ frame_ends w t h f g =
     let end : 2 * size_in w (get_or (unhex t) 0 0) ≡ up_to t = ap (λ k. 2 * size_in w k) (sym same) ∙ sym n.size ∙ size in
     (end, rw end (at_end t h))
 
--- where the first line may end: behind it a line feed stands, unless nothing was found; a line that has ended and is a frame with ids of w bytes is found
-pub record LikelyEnd (w : ℕ) (text : List ℕ) (end : ℕ) : Type 0 where
-  pub within : end ≤ length text
-  pub feed : (end ≡ 0) ⊎ ((end < length text) × (get_or text end 0 ≡ 10))
-  pub found : up_to text < length text → (f : Frame) → line_in w (take (up_to text) text) ≡ Good f → end ≡ up_to text
-
+-- what is likely is found
 pub likely : (w : ℕ) (text : List ℕ) → LikelyEnd w text (likely_end w text)
 unfolding likely_end
 likely w text = by (ltb end (length text)) (eqb (get_or text end 0) 10) refl refl
@@ -222,6 +217,9 @@ likely w text = by (ltb end (length text)) (eqb (get_or text end 0) 10) refl ref
         record { within = omega arith; feed = inl refl; found = λ h f g. absurd (eqb-false (get_or text end 0) 10 q (frame_ends w text h f g).1) }
     by false b p q =
         record { within = omega arith; feed = inl refl; found = λ h f g. absurd (omega (arith, ltb-false end (length text) p, (frame_ends w text h f g).0)) }
+
+pub likely_is : (w : ℕ) (text : List ℕ) {end : ℕ} → end ≡ likely_end w text → LikelyEnd w text end
+likely_is w text e = subst (LikelyEnd w text) (sym e) (likely w text)
 
 -- where a frame is found before a line feed its line ends; no bytes are no frame
 pub end_of_frame : (w : ℕ) (l : List ℕ) (end : ℕ) → LikelyEnd w l end → (f : Frame) → line_in w (take end l) ≡ Good f → end ≡ up_to l

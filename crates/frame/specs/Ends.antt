@@ -1,6 +1,8 @@
 -- The lines of a text that end with a line feed, and where the first of them ends.
-use Rattle.std.specs.Prelude.{ℕ, suc, ◌*◌, cond, ◌&&◌, List, [], ◌∷◌, ltb, eqb, length, get_or}
-use Rattle.rules.specs.Frames.{unhex}
+use Rattle.std.specs.Prelude.{◌≡◌, ◌⊎◌, ℕ, suc, ◌*◌, ◌<◌, ◌≤◌, cond, ◌&&◌, List, [], ◌∷◌, ltb, eqb, length, take, get_or}
+use Rattle.rules.specs.declared.Frame.{Frame}
+use Rattle.rules.specs.declared.Line.TheVariants.{Good}
+use Rattle.rules.specs.Frames.{unhex, line_in}
 use Rattle.frame.specs.Decoded.{size_in}
 
 -- a byte in front of the first line, if there is one
@@ -23,3 +25,9 @@ unfoldable pub likely_end : (w : ℕ) → List ℕ → ℕ
 likely_end w text =
     let end = 2 * size_in w (get_or (unhex text) 0 0) in
     cond (ltb end (length text) && eqb (get_or text end 0) 10) end 0
+
+-- where the first line may end: behind it a line feed stands, unless nothing was found; a line that has ended and is a frame with ids of w bytes is found
+pub record LikelyEnd (w : ℕ) (text : List ℕ) (end : ℕ) : Type 0 where
+  pub within : end ≤ length text
+  pub feed : (end ≡ 0) ⊎ ((end < length text) × (get_or text end 0 ≡ 10))
+  pub found : up_to text < length text → (f : Frame) → line_in w (take (up_to text) text) ≡ Good f → end ≡ up_to text

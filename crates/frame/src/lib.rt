@@ -7,7 +7,7 @@ ghost use Rattle.rules.specs.declared.Frame.{Frame};
 ghost use Rattle.rules.specs.declared.Line.TheVariants.{Good, Bad};
 ghost use Rattle.rules.specs.Frames.{unhex, line_in, line_of};
 ghost use Rattle.frame.specs.Decoded.{width_of, shape_of, size_in, longest_line};
-ghost use Rattle.frame.specs.Ends.{up_to, likely_end};
+ghost use Rattle.frame.specs.Ends.{up_to, likely_end, LikelyEnd};
 ghost use Rattle.frame.specs.Encoded.{encoded, encoded_into, kind_of};
 
 mod digits;
@@ -82,7 +82,8 @@ pub fn line_end(text: &[u8]) -> usize
 
 // Frames and image. Where the first line of a text ends if it is a frame's, whose kind tells how long it is; 0 if no line feed stands there.
 pub fn likely_end(width: Width, text: &[u8]) -> usize
-    ensures { result ≡ likely_end (width_of width) text.now }
+    ensures found { LikelyEnd (width_of width) text.now result }
+    ensures is { result ≡ likely_end (width_of width) text.now }
 {
     let end = 2 * size_of(width, digits::first(text));
     if end < text.len() {

@@ -9,7 +9,7 @@ use lib.Dec.{leb}
 use lib.ListN.{length, take, drop, length-drop}
 use lib.Seq.{length-take-le, take_at}
 use Rattle.rules.specs.Lists.{over}
-use Rattle.input.specs.Kept.{most_kept, kept}
+use Rattle.input.specs.Kept.{most_kept, Within, KeepsLine, kept}
 
 module _ (from to : ℕ) (old : List ℕ) where
   -- places that are not in the buffer, and places that are
@@ -38,6 +38,10 @@ module _ (from to : ℕ) (old : List ℕ) where
         let is : new ≡ over (take r (drop from old)) old = ap (λ (p : ℕ × List ℕ). p.1) e ∙ rw (le-leb from to ordered, le-leb to (length old) there, n) in
         let size : length (take r (drop from old)) ≡ r = length-take-le r (drop from old) (omega (arith, n, length-drop from old)) in
         ap (take r) is ∙ take_at (take r (drop from old)) (drop (length (take r (drop from old))) old) r size
+
+  -- of places that are in the buffer, what stands between them
+  pub keeps_line : {r : ℕ} {new : List ℕ} → (r, new) ≡ kept from to old → Within from to old → KeepsLine from to old new r
+  keeps_line e w = record { count = kept_count w.ordered w.there e; front = kept_front w.ordered w.there e }
 
   -- it is short, whatever the places are
   pub kept_few : {r : ℕ} {new : List ℕ} → (r, new) ≡ kept from to old → r ≤ most_kept

@@ -7,7 +7,7 @@ use lib.ListN.{length, get_or, take, drop, set, length-set, length-drop, take-ap
 use lib.Seq.{length-take-le, take-suc, take-suc-set, drop-set-lt, drop-drop, get_or-drop}
 use Rattle.rules.specs.Lists.{over}
 use Rattle.input.specs.Kept.{most_kept}
-use Rattle.input.proofs.Kept.{kept_none, kept_beyond, kept_some}
+use Rattle.input.proofs.Kept.{kept_none, kept_beyond, kept_some, keeps_line}
 use Rattle.input.proofs.keep.Invariants.{Shifted}
 use Rattle.input.proofs.keep.Goals as goal
 
@@ -37,7 +37,8 @@ overflow_add-from c = record { fits = omega (arith, c.loop-n.invariant.1, c.rang
 pub returns-then-from-n : goal.returns-then-from-n
 returns-then-from-n c =
     let l = c.loop-n in
-    kept_some _ _ _ (omega arith) l.invariant.2 (omega (arith, l.invariant.0)) (shifted-is (omega (arith, l.invariant.1, l.invariant.2)) l.invariant.3)
+    let is = kept_some c.args.from c.args.to c.args.buffer.now (omega arith) l.invariant.2 (omega (arith, l.invariant.0)) (shifted-is (omega (arith, l.invariant.1, l.invariant.2)) l.invariant.3) in
+    record { keeps = keeps_line _ _ _ is; is = is }
 
 pub overflow_add-buffer : goal.overflow_add-buffer
 overflow_add-buffer c = record { fits = omega (arith, c.loop-n.invariant.1, c.ranges.to) }
@@ -57,13 +58,14 @@ loop-n-preserved c =
 pub returns : goal.returns
 returns c =
     let l = c.loop-n in
-    kept_some _ _ _ (omega (arith, l.invariant.1)) l.invariant.2 (omega (arith, l.invariant.1, l.invariant.0)) (shifted-is (omega (arith, l.invariant.1, l.invariant.2)) l.invariant.3)
+    let is = kept_some c.args.from c.args.to c.args.buffer.now (omega (arith, l.invariant.1)) l.invariant.2 (omega (arith, l.invariant.1, l.invariant.0)) (shifted-is (omega (arith, l.invariant.1, l.invariant.2)) l.invariant.3) in
+    record { keeps = keeps_line _ _ _ is; is = is }
 
 pub returns-then-buffer-to : goal.returns-then-buffer-to
-returns-then-buffer-to c = kept_beyond _ _ _ c.if-buffer-to.true
+returns-then-buffer-to c = let is = kept_beyond c.args.from c.args.to c.args.buffer.now c.if-buffer-to.true in record { keeps = keeps_line _ _ _ is; is = is }
 
 pub returns-then-to-from : goal.returns-then-to-from
-returns-then-to-from c = kept_none _ _ _ c.if-to-from.true
+returns-then-to-from c = let is = kept_none c.args.from c.args.to c.args.buffer.now c.if-to-from.true in record { keeps = keeps_line _ _ _ is; is = is }
 
 pub shape_of-buffer-then-from-n : goal.shape_of-buffer-then-from-n
 shape_of-buffer-then-from-n c = c.loop-n.invariant.3.size

@@ -1,0 +1,11 @@
+-- The later ones from place j on have moved up.
+use native.Mathlib.Omega.{arith}
+use borrow.Author.Rules.{rules}
+use Rattle.calls.proofs.Changes.{Moved, moved_none, moved_more, moved_all}
+use Rattle.calls.proofs.agenda.plan.Given as goal
+
+abbrev pub invariant-loop-before : goal.invariant-loop-before
+invariant-loop-before l = Moved l.m l.x l.initial.agenda l.agenda l.j
+
+abbrev pub decreases-loop-before : goal.decreases-loop-before
+decreases-loop-before l = l.j

@@ -1,0 +1,9 @@
+-- The events that are not in the rest have begun.
+use Rattle.calls.proofs.Turns.{Starting, none_started, can_come, start_next, all_started}
+use Rattle.calls.proofs.clock.start.Given as goal
+
+abbrev pub invariant-loop-rest : goal.invariant-loop-rest
+invariant-loop-rest l = Starting l.d l.initial.slots l.holding l.starting l.slots l.now l.rest
+
+abbrev pub decreases-loop-rest : goal.decreases-loop-rest
+decreases-loop-rest l = l.rest

@@ -1,0 +1,39 @@
+-- The loop has looked at the first i slots.
+use mathlib.Core.Path.{◌≡◌, sym, ◌∙◌, refl, ap, ap₂, subst}
+use mathlib.Core.Logic.{⊎_elim}
+use Prim.Native.Nat.{◌-◌, ◌≤◌, ℕ, suc, ◌+◌, ◌<◌}
+use native.Mathlib.Omega.{arith}
+use borrow.Author.Rules.{rules}
+use borrow.Author.Tests.{not-true, not-false}
+use mathlib.Core.Bool.{Bool, true, false, cond, not}
+use mathlib.Core.List.{List, [], ◌∷◌, ◌++◌, map, map-append, append-nil}
+use native.Mathlib.Numerals.{add-one}
+use lib.ListN.{length, get_or, set, take, length-set}
+use lib.Seq.{get_or-set_other, take-suc-set, set-get_or}
+use Rattle.rules.specs.declared.Entry.{Entry}
+use Rattle.rules.specs.Lists.{keep}
+use Rattle.rules.specs.Records.{has, most_events}
+use Rattle.calls.specs.Slots.{entry_of}
+use Rattle.calls.specs.Sets.{event_at, places_to}
+use Rattle.calls.specs.Finished.{Finished}
+use Rattle.calls.proofs.Sets.{keep_append}
+use Rattle.calls.proofs.finish.finish.Given as goal
+
+-- The slots that are not in a set come to the front, one by one; those not looked at yet are as they were.
+-- those of the first d that stay
+abbrev pub staying : ℕ → ℕ → List (List ℕ) → List Entry
+staying ended d w = map (event_at w) (keep (λ i. not (has ended i)) (places_to d))
+
+-- after d slots, of which k stay
+pub record ToFront (ended d : ℕ) (old new : List (List ℕ)) (k : ℕ) : Type 0 where
+  pub size : length new ≡ most_events
+  pub fewer : k ≤ d
+  pub front : map entry_of (take k new) ≡ staying ended d old
+  pub rest : (j : ℕ) → d ≤ j → get_or new j [] ≡ get_or old j []
+
+-- The function.
+abbrev pub invariant-loop-i : goal.invariant-loop-i
+invariant-loop-i l = (l.i ≤ l.n) × ToFront l.ended l.i l.initial.slots l.slots l.k
+
+abbrev pub decreases-loop-i : goal.decreases-loop-i
+decreases-loop-i l = l.n - l.i
