@@ -1,11 +1,10 @@
 -- Document 02, #105: a line turned to a width, into a buffer from a place on.
-use Rattle.std.specs.Prelude.{ℕ, ◌+◌, ◌≤◌, Bool, cond, List, leb, eqb, length, take, drop}
+use Rattle.std.specs.Prelude.{ℕ, ◌+◌, ◌≤◌, Bool, cond, not, List, [], ◌∷◌, leb, eqb, length, take, drop}
 use Rattle.rules.specs.declared.Answer.{Answer}
 use Rattle.rules.specs.Lists.{over_at, each}
 use Rattle.rules.specs.Calls.{nothing, count, number_of, value_of}
 use Rattle.rules.specs.Converted.{kind_digits, half_digits, Turned, lengthened, shortened, LineOutcome}
 use Rattle.frame.specs.declared.Width.{Width}
-use Rattle.frame.specs.Decoded.{longest_line}
 use Rattle.frame.specs.declared.Width.TheVariants.{Short, Long}
 
 -- the width that lines are turned from
@@ -38,7 +37,7 @@ turned_at t at out = cond (eqb t.number 0) (written_at t.line at out) (refused_l
 unfoldable pub upper_zero : List ℕ → Bool
 upper_zero l = each (λ c. eqb c 48) (take half_digits (drop kind_digits l))
 
--- the line of a frame with an id: it has at least so many digits, and no more than the longest
+-- the line of a frame with an id, which is as long as its kind and one more, and no longer than the longest
 pub record OfId (least : ℕ) (l : List ℕ) : Type 0 where
   pub long : least ≤ length l
-  pub short : length l ≤ longest_line
+  pub short : length l ≤ 84

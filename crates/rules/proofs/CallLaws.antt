@@ -16,7 +16,7 @@ use Rattle.rules.specs.declared.Schedule.{Schedule}
 use Rattle.rules.specs.Lists.{each, In, Pairwise}
 use Rattle.rules.specs.Records.{State, id_of, IdFits, last_clock, program_at, view, pad, most_events}
 use Rattle.rules.specs.Moments.{advance, passed}
-use Rattle.rules.specs.Bytes.{bytes, flat, row_size}
+use Rattle.rules.specs.Bytes.{flat, row_size}
 use Rattle.rules.specs.Sound.{malformed, same_event, sound}
 use Rattle.rules.specs.Refusals.{Check, first_of, find, program_checks, event_checks, held_checks, clock_checks, ask_checks, list_checks}
 use Rattle.rules.specs.Calls.{program, event, cancellation, decision, question, Call, bare, deliver, cancel, set_clock, list, code, count, entry_id, with_entries, mark, cancel_code, does, checks, refusal, accepts, accepted, refused, lent_bytes, lent_list, call}

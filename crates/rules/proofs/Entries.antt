@@ -17,7 +17,7 @@ use Rattle.rules.specs.Bytes.{big, read, event_at, event_in, event_bytes, entry_
 use Rattle.rules.specs.Image.{marked}
 use Rattle.rules.proofs.Tests.{each_true}
 use Rattle.rules.proofs.IdLaws.{number_id, id_number_lem, id_below, from_fits}
-use Rattle.rules.proofs.Numbers.{Bytes, read_below, read_big, read_drop, piece, Inverse, all_good}
+use Rattle.rules.proofs.Numbers.{Bytes, read_big, read_drop, piece, Inverse, all_good}
 
 -- each field fits its width
 pub record FitsEvent (e : Event) : Type 0 where

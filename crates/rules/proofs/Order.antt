@@ -17,7 +17,6 @@ use Rattle.rules.specs.Lists.{keep, over, In, Same, All}
 use Rattle.rules.specs.Records.{id_of, has, pad}
 use Rattle.rules.specs.Period.{drawn_start, effective_start, effective_end}
 use Rattle.rules.specs.Bytes.{bytes, flat}
-use Rattle.rules.specs.Sound.{sound}
 use Rattle.rules.specs.Refusals.{first_of, list_checks, ask_checks}
 use Rattle.rules.specs.Calls.{Call, list, ask, Value, count, holder, entry_id, record_of, default_for, best_default, governs, holder_in, answer_for, does, checks, accepted, refused, counted, Outcome, call}
 use Rattle.rules.specs.History.{Brought, History, history_of}

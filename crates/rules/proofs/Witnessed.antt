@@ -1,7 +1,7 @@
 -- Calls, schedules, lines, texts and images, by evaluation; calls and lines by the run that passes over quiet moments.
 use mathlib.Core.Path.{◌≡◌, refl, sym, ap, ◌∙◌, fun_ext}
 use Prim.Native.Nat.{ℕ}
-use mathlib.Core.Bool.{true, ◌&&◌}
+use mathlib.Core.Bool.{true}
 use mathlib.Core.List.{List}
 use Rattle.rules.specs.Records.{half_size, id_size, id_number, id_from, usable, has, cut, join, fresh}
 use Rattle.rules.specs.Period.{drawn_start, effective_end, effective_start, earliest_start}
@@ -20,7 +20,7 @@ use Rattle.rules.specs.Converted.{widened, narrowed, lengthened, shortened, turn
 use Rattle.rules.specs.LineTable.{line_table, lines_hold}
 use Rattle.rules.specs.TextTable.{text_input, text_output, endings_hold, digits_hold, TextTables}
 use Rattle.rules.specs.Example.{example_input, example_output}
-use Rattle.rules.specs.ConvertTable.{turns_hold, alike_table, length_table, short_table, lendings_hold, convertings_hold, recorded_input, recorded_text, recorded_output, ConvertTables}
+use Rattle.rules.specs.ConvertTable.{turns_hold, length_table, short_table, lendings_hold, convertings_hold, recorded_input, recorded_text, recorded_output, ConvertTables}
 use Rattle.rules.specs.Script.{scripts_hold}
 use Rattle.rules.specs.CallTable.{call_table, answers_hold, CallTables}
 use Rattle.rules.specs.Schedules.{holding, rows_to, held_events}
@@ -70,10 +70,6 @@ text_tables =
       digits = digits_evaluate;
     }
 
-alike_evaluate : (turns_hold lengthened alike_table && turns_hold shortened alike_table) ≡ true
-unfolding turns_hold alike_table lengthened widened shortened narrowed digit paired unhex is_frame frame_in line_in read event_in id_number id_from
-alike_evaluate = refl
-
 lengths_evaluate : turns_hold lengthened length_table ≡ true
 unfolding turns_hold length_table lengthened widened digit paired unhex is_frame frame_in line_in read event_in id_number id_from
 lengths_evaluate = refl
@@ -109,7 +105,6 @@ recorded input written e = sym (quick_tell half_size fresh sound_fresh (lines_of
 pub convert_tables : ConvertTables
 convert_tables =
     record {
-      alike = alike_evaluate;
       lengthens = lengths_evaluate;
       shortens = shorts_evaluate;
       lendings = lendings_evaluate;

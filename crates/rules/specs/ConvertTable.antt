@@ -1,5 +1,5 @@
 -- Recorded lines: each beside what it is turned into, lent buffers on both sides of the need, and what the programs write for texts.
-use Rattle.std.specs.Prelude.{◌≡◌, ℕ, ◌+◌, ◌-◌, ◌^◌, Bool, true, not, ◌&&◌, ◌||◌, List, [], ◌∷◌, ◌++◌, eqb, replicate}
+use Rattle.std.specs.Prelude.{◌≡◌, ℕ, ◌-◌, ◌^◌, Bool, true, not, ◌&&◌, ◌||◌, List, [], ◌∷◌, ◌++◌, eqb, replicate}
 use Prim.Native.String.{String}
 use Rattle.rules.specs.Lists.{each}
 use Rattle.rules.specs.Ascii.{ascii, lines}
@@ -33,35 +33,6 @@ becoming t c = eqb t.number c.number && (not (eqb c.number 0) || same t.line (as
 unfoldable pub turns_hold : (List ℕ → Turned) → List Turning → Bool
 turns_hold turn cs = each (λ c. becoming (turn (ascii c.line)) c) cs
 
--- lines that become the same both ways
-unfoldable pub alike_table : List Turning
-alike_table =
-    -- the kinds without an id, all their bytes different
-    "03E1E2E3E4E5E6E7E8" becomes "03E1E2E3E4E5E6E7E8"
-    ∷ "04D1D2D3D4D5D6" becomes "04D1D2D3D4D5D6"
-    ∷ "05C1" becomes "05C1"
-    -- each one digit short, one digit long, one byte short, one byte long; spaces and a carriage return
-    ∷ "03E1E2E3E4E5E6E7E" refused 1
-    ∷ "03E1E2E3E4E5E6E7E80" refused 1
-    ∷ "03E1E2E3E4E5E6E7" refused 1
-    ∷ "03E1E2E3E4E5E6E7E800" refused 1
-    ∷ "04D1D2D3D4D5D" refused 1
-    ∷ "04D1D2D3D4D5D60" refused 1
-    ∷ "04D1D2D3D4D5" refused 1
-    ∷ "04D1D2D3D4D5D600" refused 1
-    ∷ "05C" refused 1
-    ∷ "05C10" refused 1
-    ∷ "05" refused 1
-    ∷ "05C100" refused 1
-    ∷ "05C1\r" refused 1
-    ∷ "05C1 " refused 1
-    ∷ " 05C1" refused 1
-    -- no byte, one digit, and what is printed for a refused line
-    ∷ "" refused 1
-    ∷ "0" refused 1
-    ∷ "refused 1" refused 1
-    ∷ []
-
 -- lines lengthened
 unfoldable pub length_table : List Turning
 length_table =
@@ -70,6 +41,10 @@ length_table =
     ∷ "02F1F2F3F4F5F6F7F8" becomes "020000000000000000F1F2F3F4F5F6F7F8"
     ∷ "06B1B2B3B4B5B6B7B8" becomes "060000000000000000B1B2B3B4B5B6B7B8"
     ∷ "07A1A2A3A4A5A6A7A8" becomes "070000000000000000A1A2A3A4A5A6A7A8"
+    -- the kinds without an id
+    ∷ "03E1E2E3E4E5E6E7E8" becomes "03E1E2E3E4E5E6E7E8"
+    ∷ "04D1D2D3D4D5D6" becomes "04D1D2D3D4D5D6"
+    ∷ "05C1" becomes "05C1"
     -- no field is looked at: an event of program 255 without controls, start and duration
     ∷ "01FFFFFFFFFFFFFFFFFF000000000000000000000000000000000000000000000000" becomes "010000000000000000FFFFFFFFFFFFFFFFFF000000000000000000000000000000000000000000000000"
     -- lines with an id that are long already
@@ -77,7 +52,7 @@ length_table =
     ∷ "020000000000000000F1F2F3F4F5F6F7F8" refused 1
     ∷ "060000000000000000B1B2B3B4B5B6B7B8" refused 1
     ∷ "070000000000000000A1A2A3A4A5A6A7A8" refused 1
-    -- every kind with an id one digit short, one digit long, one byte short, one byte long
+    -- every kind one digit short, one digit long, one byte short, one byte long
     ∷ "010102030405060708090A0B0C0D0E0F101112131415161718191A1B1C1D1E1F202" refused 1
     ∷ "010102030405060708090A0B0C0D0E0F101112131415161718191A1B1C1D1E1F20210" refused 1
     ∷ "010102030405060708090A0B0C0D0E0F101112131415161718191A1B1C1D1E1F20" refused 1
@@ -94,13 +69,31 @@ length_table =
     ∷ "07A1A2A3A4A5A6A7A80" refused 1
     ∷ "07A1A2A3A4A5A6A7" refused 1
     ∷ "07A1A2A3A4A5A6A7A800" refused 1
-    -- numbers that are no kind, at the lengths of others; a digit in lower case, and a letter that is none
+    ∷ "03E1E2E3E4E5E6E7E" refused 1
+    ∷ "03E1E2E3E4E5E6E7E80" refused 1
+    ∷ "03E1E2E3E4E5E6E7" refused 1
+    ∷ "03E1E2E3E4E5E6E7E800" refused 1
+    ∷ "04D1D2D3D4D5D" refused 1
+    ∷ "04D1D2D3D4D5D60" refused 1
+    ∷ "04D1D2D3D4D5" refused 1
+    ∷ "04D1D2D3D4D5D600" refused 1
+    ∷ "05C" refused 1
+    ∷ "05C10" refused 1
+    ∷ "05" refused 1
+    ∷ "05C100" refused 1
+    -- numbers that are no kind, at the lengths of others; no byte at all; digits in lower case; spaces and a carriage return; what is printed for a refused line
     ∷ "000102030405060708090A0B0C0D0E0F101112131415161718191A1B1C1D1E1F2021" refused 1
     ∷ "080102030405060708090A0B0C0D0E0F101112131415161718191A1B1C1D1E1F2021" refused 1
     ∷ "00F1F2F3F4F5F6F7F8" refused 1
     ∷ "08F1F2F3F4F5F6F7F8" refused 1
+    ∷ "" refused 1
+    ∷ "0" refused 1
     ∷ "02f1F2F3F4F5F6F7F8" refused 1
     ∷ "02F1F2F3F4F5F6F7FG" refused 1
+    ∷ "05C1\r" refused 1
+    ∷ " 05C1" refused 1
+    ∷ "05C1 " refused 1
+    ∷ "refused 1" refused 1
     ∷ []
 
 -- lines shortened
@@ -112,6 +105,10 @@ short_table =
     ∷ "060000000000000000B1B2B3B4B5B6B7B8" becomes "06B1B2B3B4B5B6B7B8"
     ∷ "070000000000000000A1A2A3A4A5A6A7A8" becomes "07A1A2A3A4A5A6A7A8"
     ∷ "020000000000000000FFFFFFFFFFFFFFFF" becomes "02FFFFFFFFFFFFFFFF"
+    -- the kinds without an id
+    ∷ "03E1E2E3E4E5E6E7E8" becomes "03E1E2E3E4E5E6E7E8"
+    ∷ "04D1D2D3D4D5D6" becomes "04D1D2D3D4D5D6"
+    ∷ "05C1" becomes "05C1"
     -- no field is looked at
     ∷ "010000000000000000FFFFFFFFFFFFFFFFFF000000000000000000000000000000000000000000000000" becomes "01FFFFFFFFFFFFFFFFFF000000000000000000000000000000000000000000000000"
     -- 15: the upper half of an id is not zero, by its lowest bit, by its highest, by each
@@ -149,7 +146,7 @@ short_table =
     ∷ "02F1F2F3F4F5F6F7F8" refused 1
     ∷ "06B1B2B3B4B5B6B7B8" refused 1
     ∷ "07A1A2A3A4A5A6A7A8" refused 1
-    -- every kind with an id one digit short, one digit long, one byte short, one byte long
+    -- every kind one digit short, one digit long, one byte short, one byte long
     ∷ "0100000000000000000102030405060708090A0B0C0D0E0F101112131415161718191A1B1C1D1E1F202" refused 1
     ∷ "0100000000000000000102030405060708090A0B0C0D0E0F101112131415161718191A1B1C1D1E1F20210" refused 1
     ∷ "0100000000000000000102030405060708090A0B0C0D0E0F101112131415161718191A1B1C1D1E1F20" refused 1
@@ -166,11 +163,25 @@ short_table =
     ∷ "070000000000000000A1A2A3A4A5A6A7A80" refused 1
     ∷ "070000000000000000A1A2A3A4A5A6A7" refused 1
     ∷ "070000000000000000A1A2A3A4A5A6A7A800" refused 1
-    -- numbers that are no kind, at the lengths of others; what is printed for a refused line
+    ∷ "03E1E2E3E4E5E6E7E" refused 1
+    ∷ "03E1E2E3E4E5E6E7E80" refused 1
+    ∷ "03E1E2E3E4E5E6E7" refused 1
+    ∷ "03E1E2E3E4E5E6E7E800" refused 1
+    ∷ "04D1D2D3D4D5D" refused 1
+    ∷ "04D1D2D3D4D5D60" refused 1
+    ∷ "04D1D2D3D4D5" refused 1
+    ∷ "04D1D2D3D4D5D600" refused 1
+    ∷ "05C" refused 1
+    ∷ "05C10" refused 1
+    ∷ "05" refused 1
+    ∷ "05C100" refused 1
+    -- numbers that are no kind; no byte at all; what is printed for a refused line
     ∷ "0000000000000000000102030405060708090A0B0C0D0E0F101112131415161718191A1B1C1D1E1F2021" refused 1
     ∷ "0800000000000000000102030405060708090A0B0C0D0E0F101112131415161718191A1B1C1D1E1F2021" refused 1
     ∷ "000000000000000000F1F2F3F4F5F6F7F8" refused 1
     ∷ "080000000000000000F1F2F3F4F5F6F7F8" refused 1
+    ∷ "" refused 1
+    ∷ "refused 1" refused 1
     ∷ "refused 15" refused 1
     ∷ []
 
@@ -295,9 +306,7 @@ recorded_output =
     )
 
 pub record ConvertTables : Type 0 where
-  -- lines without an id, and lines that are none at either width
-  pub alike : (turns_hold lengthened alike_table && turns_hold shortened alike_table) ≡ true
-  -- lines of the kinds with an id, and lines that are none
+  -- lines of every kind, and lines that are none
   pub lengthens : turns_hold lengthened length_table ≡ true
   pub shortens : turns_hold shortened short_table ≡ true
   -- lent buffers
