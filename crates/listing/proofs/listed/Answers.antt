@@ -1,6 +1,5 @@
 -- What the call leaves of empty records.
 use mathlib.Core.Path.{refl, ap, ◌∙◌}
-use borrow.Author.Rules.{rules}
 use Rattle.listing.specs.Listed.{no_records}
 use Rattle.calls.specs.Answered.{outcome_of}
 use mathlib.Core.List.{[]}

@@ -1,7 +1,5 @@
 -- 2, 13, or a record for each held event.
 use mathlib.Core.Path.{sym, ◌∙◌}
-use borrow.Author.Rules.{rules}
-use borrow.Author.Tests.{not-true, not-false}
 use Rattle.listing.proofs.Recorded.{lists_broken, lists_short, lists_all}
 use Rattle.listing.proofs.records.listing.Goals as goal
 

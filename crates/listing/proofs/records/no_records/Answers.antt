@@ -1,6 +1,5 @@
 -- At each place the record of a place that is not in use.
 use mathlib.Core.Path.{ap, ◌∙◌}
-use borrow.Author.Rules.{rules}
 use lib.ListN.{replicate}
 use Rattle.rules.specs.Records.{most_events}
 use Rattle.rules.specs.Calls.{record_of}

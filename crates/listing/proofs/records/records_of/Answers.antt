@@ -1,13 +1,8 @@
 use mathlib.Core.Path.{◌≡◌, ap, ◌∙◌}
-use Prim.Native.Nat.{◌-◌, ◌≤◌}
-use mathlib.Core.List.{◌++◌}
 use native.Mathlib.Omega.{arith}
-use borrow.Author.Rules.{rules}
-use lib.ListN.{length, take, drop, length-set}
-use Rattle.rules.specs.Records.{most_events}
+use lib.ListN.{length, length-set}
 use Rattle.rules.proofs.SoundState.{rules}
-use Rattle.listing.specs.Listed.{no_records}
-use Rattle.listing.proofs.Recorded.{held, recorded_more, recorded_all}
+use Rattle.listing.proofs.Recorded.{recorded_more, recorded_all}
 use Rattle.listing.proofs.records.records_of.Goals as goal
 
 pub loop-i-init : goal.loop-i-init

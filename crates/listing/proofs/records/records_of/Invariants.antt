@@ -1,14 +1,11 @@
 -- The loop has written the first i records.
-use mathlib.Core.Path.{◌≡◌, ap, ◌∙◌}
+use mathlib.Core.Path.{◌≡◌}
 use Prim.Native.Nat.{◌-◌, ◌≤◌}
 use mathlib.Core.List.{◌++◌}
-use native.Mathlib.Omega.{arith}
-use borrow.Author.Rules.{rules}
-use lib.ListN.{length, take, drop, length-set}
+use lib.ListN.{length, take, drop}
 use Rattle.rules.specs.Records.{most_events}
-use Rattle.rules.proofs.SoundState.{rules}
 use Rattle.listing.specs.Listed.{no_records}
-use Rattle.listing.proofs.Recorded.{held, recorded_more, recorded_all}
+use Rattle.listing.proofs.Recorded.{held}
 use Rattle.listing.proofs.records.records_of.Given as goal
 
 abbrev pub invariant-loop-i : goal.invariant-loop-i
