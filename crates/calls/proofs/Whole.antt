@@ -1,14 +1,14 @@
 -- A run takes lines from the front of a text, and leaves those behind them as they were: so what is written goes on where the run stopped.
 use mathlib.Core.Path.{◌≡◌, refl, sym, ap, ◌∙◌}
-use Prim.Native.Nat.{ℕ, zero, suc, ◌+◌, ◌-◌, ◌<◌, ◌≤◌}
-use mathlib.Core.Bool.{Bool, true, false, cond}
+use Prim.Native.Nat.{ℕ, suc, ◌+◌, ◌-◌, ◌<◌, ◌≤◌}
+use mathlib.Core.Bool.{Bool, true, false}
 use mathlib.Core.List.{List, [], ◌∷◌, ◌++◌, append_assoc, append-nil}
 use native.Mathlib.Omega.{arith}
-use borrow.Author.Tests.{ltb-true, ltb-false, eq-eqb, ne_eqb, le-leb}
+use borrow.Author.Tests.{eq-eqb, ne_eqb, le-leb}
 use borrow.Table.Steps.{cases}
-use lib.Dec.{leb, ltb, eqb}
+use lib.Dec.{leb, eqb}
 use lib.ListN.{length, take, drop, length-append}
-use lib.Seq.{drop-drop, length-take-le, take_all, take-append_seam}
+use lib.Seq.{drop-drop, take-append_seam}
 use Rattle.rules.specs.declared.Schedule.{Schedule}
 use Rattle.rules.specs.Records.{id_size, fresh, pad}
 use Rattle.rules.specs.Lists.{over}
@@ -22,7 +22,7 @@ use Rattle.rules.proofs.Evaluated.{worked_example}
 use Rattle.frame.specs.Decoded.{longest_line}
 use Rattle.frame.proofs.ByKind.{long_line}
 use Rattle.text.specs.Texts.{most_text}
-use Rattle.frame.specs.Ends.{longer, ended_of, up_to}
+use Rattle.frame.specs.Ends.{ended_of}
 use Rattle.calls.specs.Lines.{runs, run_outcome}
 use Rattle.calls.specs.Whole.{wrote, after_lines, last_byte, Ended, Turn, came_in, turns}
 use Rattle.frame.proofs.Ends.{first_line, cut_lines}

@@ -1,5 +1,5 @@
 -- Document 02, #105: a line turned to a width, into a buffer from a place on.
-use Rattle.std.specs.Prelude.{ℕ, ◌+◌, ◌≤◌, Bool, cond, not, List, [], ◌∷◌, leb, eqb, length, take, drop}
+use Rattle.std.specs.Prelude.{ℕ, ◌+◌, ◌≤◌, Bool, cond, List, leb, eqb, length, take, drop}
 use Rattle.rules.specs.declared.Answer.{Answer}
 use Rattle.rules.specs.Lists.{over_at, each}
 use Rattle.rules.specs.Calls.{nothing, count, number_of, value_of}

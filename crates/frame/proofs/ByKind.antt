@@ -16,7 +16,7 @@ use Rattle.rules.proofs.Tests.{cond_same}
 use Rattle.frame.specs.declared.Width.{Width}
 use Rattle.frame.specs.declared.Width.TheVariants.{Short, Long}
 use Rattle.frame.specs.declared.Shape.TheVariants.{WithoutId, WithId}
-use Rattle.frame.specs.Decoded.{width_of, shape_of, size_of, size_in, longest_line, frame_as, frame_as_in}
+use Rattle.frame.specs.Decoded.{width_of, shape_of, size_of, size_in, frame_as, frame_as_in}
 use Rattle.frame.proofs.Fronts.{read_take}
 use Rattle.frame.proofs.Pairs.{length_unhex}
 

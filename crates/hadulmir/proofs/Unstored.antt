@@ -2,11 +2,9 @@
 use mathlib.Core.Path.{◌≡◌, refl, sym, ap, ◌∙◌}
 use Prim.Native.Nat.{ℕ, ◌*◌, ◌/◌, ◌<◌, ◌≤◌}
 use mathlib.Core.Bool.{Bool, true, false, cond, not}
-use mathlib.Core.List.{List, [], ◌∷◌}
+use mathlib.Core.List.{List, []}
 use native.Mathlib.Omega.{arith}
 use borrow.Author.Tests.{eqb-true, not-false, lt-ltb, le-ltb}
-use denote.Enum.Declared.{tag_of}
-use types.Run.{OneOf, miss}
 use lib.Dec.{ltb, eqb}
 use lib.ListN.{length, take, drop, replicate, length-replicate}
 use lib.Seq.{take_at}
@@ -20,9 +18,8 @@ use Rattle.rules.specs.Records.{id_size, id_number, no_entry, view}
 use Rattle.rules.specs.Sound.{sound}
 use Rattle.rules.specs.Bytes.{big, flat, record_size, record_bytes}
 use Rattle.rules.specs.Image.{image}
-use Rattle.rules.specs.Calls.{ask, Outcome, count, holder, number_of, value_of, record_of, does, refusal, accepts, accepted, refused, call}
+use Rattle.rules.specs.Calls.{ask, Outcome, holder, number_of, value_of, record_of, does, refusal, accepts, accepted, refused, call}
 use Rattle.rules.specs.Face.{Operation, asks, lists, as_call, answer_bytes, id_too_long, shown, negative, lent_after, face}
-use Rattle.rules.specs.contracts.Answer.{the_type}
 use Rattle.rules.proofs.Tests.{first_not}
 use Rattle.rules.proofs.Numbers.{Bytes, big_length}
 use Rattle.rules.proofs.Images.{image_loaded}
@@ -64,11 +61,11 @@ none_fits : (lent : List ℕ) → ltb (length lent) 0 ≡ false
 none_fits lent = le-ltb (length lent) 0 (omega arith)
 
 -- an answer that names no holder has no id to be written
-unnamed : (a : Answer) → OneOf (0 ∷ 1 ∷ 2 ∷ 4 ∷ 5 ∷ []) (tag_of the_type a) → answer_bytes (value_of a) ≡ []
+unnamed : (a : Answer) → ((i : Id) → a ≡ Holder i → ⊥) → answer_bytes (value_of a) ≡ []
 unnamed (Refused n) k = refl
 unnamed (Code n) k = refl
 unnamed (Count n) k = refl
-unnamed (Holder i) k = absurd (miss (0 ∷ 1 ∷ 2 ∷ 4 ∷ 5 ∷ []) 3 tt k)
+unnamed (Holder i) k = absurd (k i refl)
 unnamed (Default p) k = refl
 unnamed Nobody k = refl
 
@@ -76,7 +73,7 @@ module _ {l : List ℕ} {b : Loaded} (f : Formed l b) (bytes : Bytes l) (c : ℕ
   leaves : a.schedule ≡ b.schedule
   leaves = ap (λ (o : Outcome). o.state) q ∙ ask_leaves b.schedule c
 
-  pub asked_other : OneOf (0 ∷ 1 ∷ 2 ∷ 4 ∷ 5 ∷ []) (tag_of the_type a.answer) → {r : ℕ} → r ≡ returned_for a.answer → face_of r l lent ≡ face l (asks c) lent
+  pub asked_other : ((i : Id) → a.answer ≡ Holder i → ⊥) → {r : ℕ} → r ≡ returned_for a.answer → face_of r l lent ≡ face l (asks c) lent
   unfolding returned_for
   asked_other k p = ap (λ (r : ℕ). face_of r l lent) p ∙ by (eqb (number_of a.answer) 0) refl
     where

@@ -1,7 +1,6 @@
 -- 1, or the call of the frame.
 use mathlib.Core.Path.{◌≡◌}
 use mathlib.Core.List.{List, []}
-use borrow.Author.Rules.{rules}
 use Prim.Native.Nat.{ℕ}
 use Rattle.rules.specs.declared.Frame.{Frame}
 use Rattle.rules.specs.declared.Line.{Line}

@@ -1,7 +1,6 @@
 -- 2, or what the call does on the slots of a sound schedule.
 use mathlib.Core.List.{[]}
 use borrow.Author.Rules.{rules}
-use borrow.Author.Tests.{not-true}
 use Rattle.rules.specs.Calls.{add_program, call}
 use Rattle.calls.specs.Slots.{schedule_of}
 use Rattle.calls.specs.Answered.{Acts}

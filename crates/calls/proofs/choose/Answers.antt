@@ -1,6 +1,5 @@
 -- 2, or what the call does on the slots of a sound schedule.
 use borrow.Author.Rules.{rules}
-use borrow.Author.Tests.{not-true}
 use Rattle.calls.proofs.Returned.{breaks, tested, ready, returned}
 use Rattle.calls.proofs.choose.Goals as goal
 

@@ -1,6 +1,5 @@
 -- 2, or the run on a sound schedule.
 use mathlib.Core.Path.{sym, ◌∙◌}
-use borrow.Author.Rules.{rules}
 use Rattle.calls.specs.Lines.{run_outcome}
 use Rattle.calls.proofs.run.Goals as goal
 

@@ -1,5 +1,4 @@
 -- 2, or what the call does on a sound schedule.
-use borrow.Author.Rules.{rules}
 use Rattle.calls.proofs.Returned.{breaks}
 use Rattle.calls.proofs.set_clock.Goals as goal
 

@@ -1,8 +1,6 @@
 -- A line of another length than its kind asks for is bad, and so is one with a byte that is no digit; any other is the frame that its bytes are.
 use mathlib.Core.Path.{sym, ap, ◌∙◌, refl}
 use native.Mathlib.Omega.{arith}
-use borrow.Author.Rules.{rules}
-use borrow.Author.Tests.{not-true, not-false}
 use Rattle.rules.specs.Records.{id_size}
 use Rattle.rules.specs.Frames.{line_in}
 use Rattle.frame.specs.Decoded.{size_of}

@@ -2,7 +2,6 @@
 use mathlib.Core.Path.{◌≡◌, refl, ap, ◌∙◌}
 use Prim.Native.Nat.{◌*◌}
 use native.Mathlib.Omega.{arith}
-use borrow.Author.Rules.{rules}
 use Rattle.rules.specs.Records.{id_size}
 use Rattle.frame.specs.Decoded.{size_of}
 use Rattle.frame.specs.Encoded.{kind_of, encoded}

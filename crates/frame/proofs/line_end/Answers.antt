@@ -1,9 +1,5 @@
-use mathlib.Core.Path.{◌≡◌, refl, ◌∙◌}
-use Prim.Native.Nat.{◌+◌, ◌-◌}
+use mathlib.Core.Path.{◌∙◌}
 use native.Mathlib.Omega.{arith}
-use borrow.Author.Rules.{rules}
-use lib.ListN.{length, drop}
-use Rattle.frame.specs.Ends.{up_to}
 use Rattle.frame.proofs.Ends.{up_to_feed, up_to_more, up_to_end}
 use Rattle.frame.proofs.line_end.Goals as goal
 

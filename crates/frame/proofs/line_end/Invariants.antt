@@ -1,11 +1,8 @@
 -- No line feed stands before i.
-use mathlib.Core.Path.{◌≡◌, refl, ◌∙◌}
+use mathlib.Core.Path.{◌≡◌}
 use Prim.Native.Nat.{◌+◌, ◌-◌}
-use native.Mathlib.Omega.{arith}
-use borrow.Author.Rules.{rules}
 use lib.ListN.{length, drop}
 use Rattle.frame.specs.Ends.{up_to}
-use Rattle.frame.proofs.Ends.{up_to_feed, up_to_more, up_to_end}
 use Rattle.frame.proofs.line_end.Given as goal
 
 abbrev pub invariant-loop-i : goal.invariant-loop-i

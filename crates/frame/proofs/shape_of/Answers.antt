@@ -3,8 +3,6 @@ use mathlib.Core.Path.{◌≡◌, sym, ap, ◌∙◌}
 use mathlib.Core.Logic.{inl, inr}
 use mathlib.Core.Bool.{true}
 use native.Mathlib.Omega.{arith}
-use borrow.Author.Rules.{rules}
-use borrow.Author.Tests.{not-true, not-false}
 use lib.ListN.{get_or}
 use Rattle.rules.specs.Frames.{paired, unhex, line_in}
 use Rattle.frame.specs.Decoded.{width_of, shape_of, size_in, frame_as_in}
@@ -38,43 +36,43 @@ pub returns-in-3 : goal.returns-in-3
 returns-in-3 c =
     let size : let a = c.args in c.size_of-size.result ≡ size_in (width_of a.width) (get_or (unhex a.line.now) 0 0) = let a = c.args in c.size_of-size.ensures ∙ ap (size_in (width_of a.width)) c.first-kind.ensures in
     let is-frame : let a = c.args in line_in (width_of a.width) a.line.now ≡ frame_as_in (width_of a.width) c.first-kind.result (unhex a.line.now) = let digits = c.are_digits in
-        let a = c.args in
-        let w = width_of a.width in
-        let paired-line : paired a.line.now ≡ true = paired_all _ a.line.now (sym c.if-size-line.false) ∙ sym digits.ensures ∙ c.if-not-are_digits.false in
-        line_as w a.line.now paired-line (omega (arith, c.if-size-line.false, size))
-        ∙ ap (λ k. frame_as_in w k (unhex a.line.now)) (sym c.first-kind.ensures) in
+    let a = c.args in
+    let w = width_of a.width in
+    let paired-line : paired a.line.now ≡ true = paired_all _ a.line.now (sym c.if-size-line.false) ∙ sym digits.ensures ∙ c.if-not-are_digits.false in
+    line_as w a.line.now paired-line (omega (arith, c.if-size-line.false, size))
+    ∙ ap (λ k. frame_as_in w k (unhex a.line.now)) (sym c.first-kind.ensures) in
     sym (ap shape_of (is-frame) ∙ without_id _ _ _ (inl c.in-3.is))
 
 pub returns-in-4 : goal.returns-in-4
 returns-in-4 c =
     let size : let a = c.args in c.size_of-size.result ≡ size_in (width_of a.width) (get_or (unhex a.line.now) 0 0) = let a = c.args in c.size_of-size.ensures ∙ ap (size_in (width_of a.width)) c.first-kind.ensures in
     let is-frame : let a = c.args in line_in (width_of a.width) a.line.now ≡ frame_as_in (width_of a.width) c.first-kind.result (unhex a.line.now) = let digits = c.are_digits in
-        let a = c.args in
-        let w = width_of a.width in
-        let paired-line : paired a.line.now ≡ true = paired_all _ a.line.now (sym c.if-size-line.false) ∙ sym digits.ensures ∙ c.if-not-are_digits.false in
-        line_as w a.line.now paired-line (omega (arith, c.if-size-line.false, size))
-        ∙ ap (λ k. frame_as_in w k (unhex a.line.now)) (sym c.first-kind.ensures) in
+    let a = c.args in
+    let w = width_of a.width in
+    let paired-line : paired a.line.now ≡ true = paired_all _ a.line.now (sym c.if-size-line.false) ∙ sym digits.ensures ∙ c.if-not-are_digits.false in
+    line_as w a.line.now paired-line (omega (arith, c.if-size-line.false, size))
+    ∙ ap (λ k. frame_as_in w k (unhex a.line.now)) (sym c.first-kind.ensures) in
     sym (ap shape_of (is-frame) ∙ without_id _ _ _ (inr (inl c.in-4.is)))
 
 pub returns-in-5 : goal.returns-in-5
 returns-in-5 c =
     let size : let a = c.args in c.size_of-size.result ≡ size_in (width_of a.width) (get_or (unhex a.line.now) 0 0) = let a = c.args in c.size_of-size.ensures ∙ ap (size_in (width_of a.width)) c.first-kind.ensures in
     let is-frame : let a = c.args in line_in (width_of a.width) a.line.now ≡ frame_as_in (width_of a.width) c.first-kind.result (unhex a.line.now) = let digits = c.are_digits in
-        let a = c.args in
-        let w = width_of a.width in
-        let paired-line : paired a.line.now ≡ true = paired_all _ a.line.now (sym c.if-size-line.false) ∙ sym digits.ensures ∙ c.if-not-are_digits.false in
-        line_as w a.line.now paired-line (omega (arith, c.if-size-line.false, size))
-        ∙ ap (λ k. frame_as_in w k (unhex a.line.now)) (sym c.first-kind.ensures) in
+    let a = c.args in
+    let w = width_of a.width in
+    let paired-line : paired a.line.now ≡ true = paired_all _ a.line.now (sym c.if-size-line.false) ∙ sym digits.ensures ∙ c.if-not-are_digits.false in
+    line_as w a.line.now paired-line (omega (arith, c.if-size-line.false, size))
+    ∙ ap (λ k. frame_as_in w k (unhex a.line.now)) (sym c.first-kind.ensures) in
     sym (ap shape_of (is-frame) ∙ without_id _ _ _ (inr (inr c.in-5.is)))
 
 pub returns-in_default : goal.returns-in_default
 returns-in_default c =
     let size : let a = c.args in c.size_of-size.result ≡ size_in (width_of a.width) (get_or (unhex a.line.now) 0 0) = let a = c.args in c.size_of-size.ensures ∙ ap (size_in (width_of a.width)) c.first-kind.ensures in
     let is-frame : let a = c.args in line_in (width_of a.width) a.line.now ≡ frame_as_in (width_of a.width) c.first-kind.result (unhex a.line.now) = let digits = c.are_digits in
-        let a = c.args in
-        let w = width_of a.width in
-        let paired-line : paired a.line.now ≡ true = paired_all _ a.line.now (sym c.if-size-line.false) ∙ sym digits.ensures ∙ c.if-not-are_digits.false in
-        line_as w a.line.now paired-line (omega (arith, c.if-size-line.false, size))
-        ∙ ap (λ k. frame_as_in w k (unhex a.line.now)) (sym c.first-kind.ensures) in
+    let a = c.args in
+    let w = width_of a.width in
+    let paired-line : paired a.line.now ≡ true = paired_all _ a.line.now (sym c.if-size-line.false) ∙ sym digits.ensures ∙ c.if-not-are_digits.false in
+    line_as w a.line.now paired-line (omega (arith, c.if-size-line.false, size))
+    ∙ ap (λ k. frame_as_in w k (unhex a.line.now)) (sym c.first-kind.ensures) in
     let rest = c.in_default.in_default-own.rest in
     sym (ap shape_of (is-frame) ∙ with_id _ _ _ (λ e. c.if-size-eq0.false (c.size_of-size.ensures ∙ e)) rest.0.0.1 rest.0.1 rest.1)

@@ -1,9 +1,7 @@
 -- The bytes of the numbers are those of the definition.
 use mathlib.Core.Path.{◌≡◌, refl, sym, ap, ◌∙◌}
-use mathlib.Core.Logic.{⊎_elim}
 use Prim.Native.Nat.{ℕ, zero, suc, ◌*◌, ◌/◌, ◌%◌, ◌^◌, ◌≤◌}
 use native.Mathlib.Omega.{arith}
-use borrow.Author.Rules.{rules}
 use Rattle.frame.specs.declared.Width.{Width}
 use Rattle.frame.specs.declared.Width.TheVariants.{Short, Long}
 use Rattle.frame.specs.Decoded.{width_of, size_in}

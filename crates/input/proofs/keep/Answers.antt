@@ -1,12 +1,10 @@
 use mathlib.Core.Path.{◌≡◌, refl, sym, ap, ◌∙◌}
-use Prim.Native.Nat.{ℕ, suc, ◌+◌, ◌-◌, ◌<◌, ◌≤◌}
+use Prim.Native.Nat.{ℕ, suc, ◌+◌, ◌<◌, ◌≤◌}
 use mathlib.Core.List.{List}
 use native.Mathlib.Omega.{arith}
-use borrow.Author.Rules.{rules}
 use lib.ListN.{length, get_or, take, drop, set, length-set, length-drop, take-append-drop}
 use lib.Seq.{length-take-le, take-suc, take-suc-set, drop-set-lt, drop-drop, get_or-drop}
 use Rattle.rules.specs.Lists.{over}
-use Rattle.input.specs.Kept.{most_kept}
 use Rattle.input.proofs.Kept.{kept_none, kept_beyond, kept_some, keeps_line}
 use Rattle.input.proofs.keep.Invariants.{Shifted}
 use Rattle.input.proofs.keep.Goals as goal

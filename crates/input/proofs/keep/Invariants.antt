@@ -1,14 +1,9 @@
 -- What was moved stands at the front, and what is still to be moved where it was.
-use mathlib.Core.Path.{◌≡◌, refl, sym, ap, ◌∙◌}
-use Prim.Native.Nat.{ℕ, suc, ◌+◌, ◌-◌, ◌<◌, ◌≤◌}
+use mathlib.Core.Path.{◌≡◌}
+use Prim.Native.Nat.{ℕ, ◌+◌, ◌-◌, ◌≤◌}
 use mathlib.Core.List.{List}
-use native.Mathlib.Omega.{arith}
-use borrow.Author.Rules.{rules}
-use lib.ListN.{length, get_or, take, drop, set, length-set, length-drop, take-append-drop}
-use lib.Seq.{length-take-le, take-suc, take-suc-set, drop-set-lt, drop-drop, get_or-drop}
-use Rattle.rules.specs.Lists.{over}
+use lib.ListN.{length, take, drop}
 use Rattle.input.specs.Kept.{most_kept}
-use Rattle.input.proofs.Kept.{kept_none, kept_beyond, kept_some}
 use Rattle.input.proofs.keep.Given as goal
 
 -- the first n bytes from a place on stand at the front, and behind them all is as it was

@@ -1,7 +1,6 @@
 -- One turn fewer if there is more; of no turns none is left.
 use mathlib.Core.Path.{refl}
 use native.Mathlib.Omega.{arith}
-use borrow.Author.Rules.{rules}
 use Rattle.input.proofs.Kept.{no_turn}
 use Rattle.input.proofs.left.Goals as goal
 

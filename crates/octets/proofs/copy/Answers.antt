@@ -1,10 +1,7 @@
-use mathlib.Core.Path.{◌≡◌, refl, sym, ◌∙◌}
-use Prim.Native.Nat.{◌+◌, ◌-◌, ◌≤◌}
+use mathlib.Core.Path.{◌≡◌, sym, ◌∙◌}
 use native.Mathlib.Omega.{arith}
-use borrow.Author.Rules.{rules}
-use lib.ListN.{length, take}
 use Rattle.octets.proofs.Fits.{copy_inside, copy_short, copy_outside}
-use Rattle.octets.proofs.Writes.{Wrote, wrote_none, same_size, copied_one}
+use Rattle.octets.proofs.Writes.{wrote_none, same_size, copied_one}
 use Rattle.octets.proofs.copy.Goals as goal
 
 pub returns-then-from-n : goal.returns-then-from-n

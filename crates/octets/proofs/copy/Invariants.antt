@@ -1,11 +1,7 @@
 -- The loop has copied the first i.
-use mathlib.Core.Path.{◌≡◌, refl, sym, ◌∙◌}
-use Prim.Native.Nat.{◌+◌, ◌-◌, ◌≤◌}
-use native.Mathlib.Omega.{arith}
-use borrow.Author.Rules.{rules}
-use lib.ListN.{length, take}
-use Rattle.octets.proofs.Fits.{copy_inside, copy_short, copy_outside}
-use Rattle.octets.proofs.Writes.{Wrote, wrote_none, same_size, copied_one}
+use Prim.Native.Nat.{◌-◌, ◌≤◌}
+use lib.ListN.{take}
+use Rattle.octets.proofs.Writes.{Wrote}
 use Rattle.octets.proofs.copy.Given as goal
 
 abbrev pub invariant-loop-i : goal.invariant-loop-i

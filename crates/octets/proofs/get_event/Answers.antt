@@ -1,7 +1,6 @@
 -- Field by field, if all are there.
 use mathlib.Core.Path.{sym, ◌∙◌}
 use native.Mathlib.Omega.{arith}
-use borrow.Author.Rules.{rules}
 use Rattle.rules.specs.Bytes.{event_in}
 use Rattle.octets.proofs.Fits.{id_inside, event_inside, event_outside}
 use Rattle.octets.proofs.get_event.Goals as goal

@@ -2,7 +2,6 @@
 use mathlib.Core.Path.{sym, ap, ap₂, ◌∙◌}
 use Prim.Native.Nat.{◌+◌}
 use native.Mathlib.Omega.{arith}
-use borrow.Author.Rules.{rules}
 use Rattle.rules.specs.Records.{half_size, halves, id_from}
 use Rattle.octets.proofs.Fits.{get_inside, id_inside, id_outside}
 use Rattle.octets.proofs.Joins.{id_read}

@@ -1,9 +1,7 @@
 use mathlib.Core.Path.{◌≡◌, sym, ◌∙◌}
-use Prim.Native.Nat.{◌≤◌}
 use native.Mathlib.Omega.{arith}
-use borrow.Author.Rules.{rules}
 use Rattle.octets.proofs.Fits.{put_inside, put_outside}
-use Rattle.octets.proofs.Writes.{NumberLeft, left_all, left_less, left_none}
+use Rattle.octets.proofs.Writes.{left_all, left_less, left_none}
 use Rattle.octets.proofs.put.Goals as goal
 
 pub returns-then-b-n : goal.returns-then-b-n

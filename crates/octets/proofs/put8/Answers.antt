@@ -1,7 +1,6 @@
 -- There is room, or there is none.
 use mathlib.Core.Path.{sym, ◌∙◌}
 use native.Mathlib.Omega.{arith}
-use borrow.Author.Rules.{rules}
 use Rattle.octets.proofs.Fits.{put_inside, put_outside}
 use Rattle.octets.proofs.put8.Goals as goal
 

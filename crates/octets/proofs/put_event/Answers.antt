@@ -2,7 +2,6 @@
 use mathlib.Core.Path.{refl, sym, ◌∙◌}
 use Prim.Native.Nat.{◌+◌}
 use native.Mathlib.Omega.{arith}
-use borrow.Author.Rules.{rules}
 use Rattle.rules.specs.Records.{id_size, id_of}
 use Rattle.rules.specs.Bytes.{big, event_bytes}
 use Rattle.octets.specs.Octets.{four_bytes}

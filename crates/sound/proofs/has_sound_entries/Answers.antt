@@ -1,12 +1,9 @@
 use mathlib.Core.Path.{◌≡◌, sym, ap, ◌∙◌}
-use Prim.Native.Nat.{◌≤◌}
 use native.Mathlib.Omega.{arith}
-use borrow.Author.Rules.{rules}
-use lib.ListN.{take, drop}
-use Rattle.rules.specs.Records.{id_number, join, program_at}
+use Rattle.rules.specs.Records.{join, program_at}
 use Rattle.rules.proofs.IdLaws.{number_id}
-use Rattle.rules.proofs.Lengths.{Lengths, lengths}
-use Rattle.sound.proofs.Backward.{EntriesPassed, start, turn}
+use Rattle.rules.proofs.Lengths.{lengths}
+use Rattle.sound.proofs.Backward.{start, turn}
 use Rattle.sound.proofs.has_sound_entries.Goals as goal
 
 pub loop-i-init : goal.loop-i-init

@@ -1,13 +1,9 @@
 -- A pass from the back: the invariant is what the variables say of the entries passed, and a turn adds the one before them.
-use mathlib.Core.Path.{◌≡◌, sym, ap, ◌∙◌}
 use Prim.Native.Nat.{◌≤◌}
-use native.Mathlib.Omega.{arith}
-use borrow.Author.Rules.{rules}
 use lib.ListN.{take, drop}
-use Rattle.rules.specs.Records.{id_number, join, program_at}
-use Rattle.rules.proofs.IdLaws.{number_id}
-use Rattle.rules.proofs.Lengths.{Lengths, lengths}
-use Rattle.sound.proofs.Backward.{EntriesPassed, start, turn}
+use Rattle.rules.specs.Records.{id_number}
+use Rattle.rules.proofs.Lengths.{Lengths}
+use Rattle.sound.proofs.Backward.{EntriesPassed}
 use Rattle.sound.proofs.has_sound_entries.Given as goal
 
 abbrev pub invariant-loop-i : goal.invariant-loop-i

@@ -1,14 +1,9 @@
 -- A pass from the front over the eight places.
-use mathlib.Core.Path.{◌≡◌, refl, ◌∙◌}
+use mathlib.Core.Path.{◌≡◌}
 use Prim.Native.Nat.{◌-◌}
-use native.Mathlib.Omega.{arith}
-use borrow.Author.Tests.{not-true, not-false}
 use lib.ListN.{length, drop}
 use Rattle.rules.specs.Lists.{each}
-use Rattle.rules.specs.Records.{no_program}
 use Rattle.rules.specs.Sound.{sound_program}
-use Rattle.rules.proofs.Lengths.{lengths}
-use Rattle.sound.proofs.Forward.{passed, failed, ended}
 use Rattle.sound.proofs.has_sound_programs.Given as goal
 
 abbrev pub invariant-loop-i : goal.invariant-loop-i

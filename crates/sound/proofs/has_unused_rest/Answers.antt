@@ -1,10 +1,5 @@
-use mathlib.Core.Path.{◌≡◌, refl, ◌∙◌}
-use Prim.Native.Nat.{◌-◌}
+use mathlib.Core.Path.{refl, ◌∙◌}
 use native.Mathlib.Omega.{arith}
-use borrow.Author.Tests.{not-true, not-false}
-use lib.ListN.{length, drop}
-use Rattle.rules.specs.Lists.{each}
-use Rattle.rules.specs.Records.{most_events}
 use Rattle.rules.specs.Sound.{unused}
 use Rattle.rules.proofs.Lengths.{lengths}
 use Rattle.sound.proofs.Forward.{passed, failed, ended}

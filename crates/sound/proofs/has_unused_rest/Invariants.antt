@@ -1,14 +1,10 @@
 -- A pass from the front over the places from the count on, if there are any.
-use mathlib.Core.Path.{◌≡◌, refl, ◌∙◌}
+use mathlib.Core.Path.{◌≡◌}
 use Prim.Native.Nat.{◌-◌}
-use native.Mathlib.Omega.{arith}
-use borrow.Author.Tests.{not-true, not-false}
 use lib.ListN.{length, drop}
 use Rattle.rules.specs.Lists.{each}
 use Rattle.rules.specs.Records.{most_events}
 use Rattle.rules.specs.Sound.{unused}
-use Rattle.rules.proofs.Lengths.{lengths}
-use Rattle.sound.proofs.Forward.{passed, failed, ended}
 use Rattle.sound.proofs.has_unused_rest.Given as goal
 
 abbrev pub invariant-loop-i : goal.invariant-loop-i

@@ -1,5 +1,4 @@
 -- The code is the definition.
-use borrow.Author.Rules.{rules}
 use Rattle.rules.specs.Records.{cut}
 use Rattle.sound.proofs.is_before.Goals as goal
 

@@ -1,6 +1,5 @@
 -- The tests, of the times that the event's own functions work out.
 use mathlib.Core.Path.{ap}
-use borrow.Author.Rules.{rules}
 use Rattle.rules.specs.Sound.{in_period, lasting}
 use Rattle.sound.proofs.is_in_period.Goals as goal
 

@@ -1,7 +1,6 @@
 -- Each rule is tested by the function for it. That the arrays have their places is known of every schedule given by value.
 use mathlib.Core.Path.{◌≡◌}
 use mathlib.Core.Bool.{true, and-false}
-use borrow.Author.Rules.{rules}
 use borrow.Author.Tests.{leb-true}
 use lib.Dec.{leb}
 use Rattle.rules.specs.Records.{last_clock, most_events}

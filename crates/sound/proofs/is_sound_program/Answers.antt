@@ -1,6 +1,5 @@
 -- A place in use has a primacy that may be used, any other is zero.
 use mathlib.Core.Path.{sym}
-use borrow.Author.Rules.{rules}
 use Rattle.rules.specs.Sound.{sound_program}
 use Rattle.sound.proofs.Primacies.{arm}
 use Rattle.sound.proofs.is_sound_program.Goals as goal

@@ -1,5 +1,4 @@
 -- The event is compared with the empty one, the other fields with 0.
-use borrow.Author.Rules.{rules}
 use Rattle.rules.specs.Sound.{unused}
 use Rattle.sound.proofs.is_unused.Goals as goal
 

@@ -1,17 +1,6 @@
-use mathlib.Core.Path.{◌≡◌}
-use Prim.Native.Nat.{ℕ, ◌+◌, ◌-◌, ◌*◌, ◌/◌, ◌<◌}
-use mathlib.Core.List.{List}
 use native.Mathlib.Omega.{arith}
-use lib.Bits.{bit_or}
-use lib.ListN.{get_or}
-use Rattle.calls.specs.declared.clock.Standing.{Standing}
-use Rattle.calls.specs.declared.held.Head.{Head}
-use Rattle.calls.specs.Sets.{set_width}
-use Rattle.calls.specs.Agenda.{TakenTo, second_width}
-use Rattle.calls.specs.Moment.{Steady}
 use Rattle.calls.proofs.Changes.{stops_ends, stops_starts}
-use Rattle.calls.proofs.Advancing.{Going, opened, next_later, ahead, step, steady_next, stop}
-use Rattle.calls.proofs.advance.moments.Invariants.{Stands}
+use Rattle.calls.proofs.Advancing.{opened, next_later, ahead, step, steady_next, stop}
 use Rattle.calls.proofs.advance.moments.Goals as goal
 
 pub holders-holding-requires : goal.holders-holding-requires

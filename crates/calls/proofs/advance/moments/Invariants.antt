@@ -1,17 +1,13 @@
 -- The loop has passed the moments up to a clock, and t is the time of the next change.
 use mathlib.Core.Path.{◌≡◌}
-use Prim.Native.Nat.{ℕ, ◌+◌, ◌-◌, ◌*◌, ◌/◌, ◌<◌}
+use Prim.Native.Nat.{ℕ, ◌+◌, ◌-◌, ◌/◌, ◌<◌}
 use mathlib.Core.List.{List}
-use native.Mathlib.Omega.{arith}
-use lib.Bits.{bit_or}
 use lib.ListN.{get_or}
 use Rattle.calls.specs.declared.clock.Standing.{Standing}
 use Rattle.calls.specs.declared.held.Head.{Head}
-use Rattle.calls.specs.Sets.{set_width}
-use Rattle.calls.specs.Agenda.{TakenTo, second_width}
+use Rattle.calls.specs.Agenda.{second_width}
 use Rattle.calls.specs.Moment.{Steady}
-use Rattle.calls.proofs.Changes.{stops_ends, stops_starts}
-use Rattle.calls.proofs.Advancing.{Going, opened, next_later, ahead, step, steady_next, stop}
+use Rattle.calls.proofs.Advancing.{Going}
 use Rattle.calls.proofs.advance.moments.Given as goal
 
 -- the moments up to a clock are passed, of what the slots w were when the function began; and a quiet second would set no mark

@@ -1,7 +1,6 @@
 -- A quiet second is counted; else nothing changes.
 use mathlib.Core.Path.{refl, sym, ◌∙◌}
 use mathlib.Core.Bool.{true, false}
-use borrow.Author.Rules.{rules}
 use Rattle.rules.proofs.Tests.{both}
 use Rattle.calls.proofs.advance.open.Goals as goal
 

@@ -1,13 +1,12 @@
 use mathlib.Core.Path.{◌≡◌, sym, ◌∙◌}
 use mathlib.Core.Logic.{⊎_elim}
 use mathlib.Core.Bool.{not}
-use Prim.Native.Nat.{◌+◌, ◌-◌, ◌*◌, ◌≤◌}
+use Prim.Native.Nat.{◌+◌, ◌*◌, ◌≤◌}
 use native.Mathlib.Omega.{arith}
-use borrow.Author.Rules.{rules}
 use borrow.Author.Tests.{leb-true}
 use lib.Dec.{leb, ltb}
 use Rattle.rules.proofs.Tests.{both, each_true}
-use Rattle.calls.proofs.Changes.{Plans, Changes, WithStart, passed, planned, no_changes, event_more, agenda_of}
+use Rattle.calls.proofs.Changes.{Plans, WithStart, passed, planned, no_changes, event_more, agenda_of}
 use Rattle.calls.proofs.agenda.gather.Goals as goal
 
 pub start_at-requires : goal.start_at-requires

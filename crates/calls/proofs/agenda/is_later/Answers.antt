@@ -1,7 +1,6 @@
 -- There is none before place 0; else the test tells.
 use mathlib.Core.Path.{refl}
 use native.Mathlib.Omega.{arith}
-use borrow.Author.Rules.{rules}
 use borrow.Author.Tests.{ltb-true, ltb-false}
 use Rattle.rules.proofs.Tests.{both}
 use Rattle.calls.proofs.agenda.is_later.Goals as goal

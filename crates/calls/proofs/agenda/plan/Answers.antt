@@ -1,6 +1,5 @@
 use native.Mathlib.Omega.{arith}
-use borrow.Author.Rules.{rules}
-use Rattle.calls.proofs.Changes.{Moved, moved_none, moved_more, moved_all}
+use Rattle.calls.proofs.Changes.{moved_none, moved_more, moved_all}
 use Rattle.calls.proofs.agenda.plan.Goals as goal
 
 pub loop-before-preserved : goal.loop-before-preserved

@@ -1,7 +1,5 @@
 -- The later ones from place j on have moved up.
-use native.Mathlib.Omega.{arith}
-use borrow.Author.Rules.{rules}
-use Rattle.calls.proofs.Changes.{Moved, moved_none, moved_more, moved_all}
+use Rattle.calls.proofs.Changes.{Moved}
 use Rattle.calls.proofs.agenda.plan.Given as goal
 
 abbrev pub invariant-loop-before : goal.invariant-loop-before

@@ -1,12 +1,10 @@
-use Prim.Native.Nat.{◌-◌, ◌%◌}
+use Prim.Native.Nat.{◌%◌}
 use native.Mathlib.Nat.{one-mul}
 use native.Mathlib.Omega.{arith}
-use borrow.Author.Rules.{rules}
 use lib.ListN.{get_or}
 use lib.Pow.{shl_exact}
 use Rattle.calls.specs.Sets.{set_width}
-use Rattle.calls.specs.Agenda.{agenda_size}
-use Rattle.calls.proofs.Changes.{Taking, taken_none, taken_more, taken_all}
+use Rattle.calls.proofs.Changes.{taken_none, taken_more, taken_all}
 use Rattle.calls.proofs.agenda.take.Goals as goal
 
 pub loop-next-preserved : goal.loop-next-preserved

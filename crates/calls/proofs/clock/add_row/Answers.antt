@@ -1,7 +1,6 @@
 -- A row is three parts, one after the other.
 use Prim.Native.Nat.{◌+◌, ◌*◌, ◌≤◌}
 use native.Mathlib.Omega.{arith}
-use borrow.Author.Rules.{rules}
 use lib.ListN.{length}
 use Rattle.rules.specs.Records.{id_size, id_number}
 use Rattle.rules.specs.Bytes.{row_size}

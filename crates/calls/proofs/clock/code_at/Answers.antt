@@ -1,6 +1,5 @@
 -- An end's code is that of its choice, any other its kind.
 use mathlib.Core.Path.{ap, ◌∙◌}
-use borrow.Author.Rules.{rules}
 use borrow.Author.Tests.{eq-eqb, ne_eqb}
 use Rattle.rules.specs.Rows.{end_code}
 use Rattle.calls.proofs.clock.code_at.Goals as goal

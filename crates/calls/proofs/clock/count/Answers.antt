@@ -1,8 +1,7 @@
 use Prim.Native.Nat.{◌<◌}
 use native.Mathlib.Omega.{arith}
-use borrow.Author.Rules.{rules}
 use Rattle.rules.specs.Records.{most_events}
-use Rattle.calls.proofs.Turns.{Counting, none_counted, count_next, all_counted}
+use Rattle.calls.proofs.Turns.{none_counted, count_next, all_counted}
 use Rattle.calls.proofs.clock.count.Goals as goal
 
 pub loop-rest-preserved : goal.loop-rest-preserved

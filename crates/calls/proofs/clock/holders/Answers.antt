@@ -1,12 +1,10 @@
 use mathlib.Core.Path.{◌≡◌, refl, sym, ◌∙◌}
 use mathlib.Core.Logic.{⊎_elim}
-use Prim.Native.Nat.{◌-◌, ◌≤◌}
 use native.Mathlib.Omega.{arith}
 use native.Mathlib.Nat.{one-mul}
-use borrow.Author.Rules.{rules}
 use lib.Pow.{shl_exact}
 use Rattle.rules.proofs.Masks.{not_has}
-use Rattle.calls.specs.Sets.{mask_at, Holders}
+use Rattle.calls.specs.Sets.{mask_at}
 use Rattle.calls.proofs.Sets.{set_more, set_skip}
 use Rattle.calls.proofs.clock.holders.Goals as goal
 

@@ -1,4 +1,4 @@
-use Rattle.calls.proofs.Turns.{Releasing, none_released, release_next, all_released}
+use Rattle.calls.proofs.Turns.{none_released, release_next, all_released}
 use Rattle.calls.proofs.clock.release.Goals as goal
 
 pub loop-rest-init : goal.loop-rest-init

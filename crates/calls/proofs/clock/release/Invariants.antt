@@ -1,5 +1,5 @@
 -- The events of the set let go one by one.
-use Rattle.calls.proofs.Turns.{Releasing, none_released, release_next, all_released}
+use Rattle.calls.proofs.Turns.{Releasing}
 use Rattle.calls.proofs.clock.release.Given as goal
 
 abbrev pub invariant-loop-rest : goal.invariant-loop-rest

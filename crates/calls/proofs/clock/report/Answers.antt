@@ -2,7 +2,7 @@ use mathlib.Core.Path.{◌∙◌}
 use Prim.Native.Nat.{◌<◌}
 use native.Mathlib.Omega.{arith}
 use Rattle.rules.specs.Records.{most_events, most_rows}
-use Rattle.calls.proofs.Turns.{Reporting, none_reported, next_place, has_room, report_next, all_reported}
+use Rattle.calls.proofs.Turns.{none_reported, next_place, has_room, report_next, all_reported}
 use Rattle.calls.proofs.clock.report.Goals as goal
 
 pub loop-rest-preserved : goal.loop-rest-preserved

@@ -1,4 +1,4 @@
-use Rattle.calls.proofs.Turns.{Starting, none_started, can_come, start_next, all_started}
+use Rattle.calls.proofs.Turns.{none_started, can_come, start_next, all_started}
 use Rattle.calls.proofs.clock.start.Goals as goal
 
 pub loop-rest-init : goal.loop-rest-init

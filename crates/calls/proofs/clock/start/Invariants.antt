@@ -1,5 +1,5 @@
 -- The events that are not in the rest have begun.
-use Rattle.calls.proofs.Turns.{Starting, none_started, can_come, start_next, all_started}
+use Rattle.calls.proofs.Turns.{Starting}
 use Rattle.calls.proofs.clock.start.Given as goal
 
 abbrev pub invariant-loop-rest : goal.invariant-loop-rest

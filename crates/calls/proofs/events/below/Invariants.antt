@@ -1,17 +1,10 @@
 -- `i` counts the slots passed, and the ids of all of them are smaller.
-use mathlib.Core.Path.{◌≡◌, sym, ap, ◌∙◌}
 use Prim.Native.Nat.{ℕ, ◌≤◌, ◌<◌, ◌-◌}
 use mathlib.Core.List.{[]}
-use native.Mathlib.Omega.{arith}
-use borrow.Author.Rules.{rules}
-use borrow.Author.Count.{below_none, below_more}
-use borrow.Author.Tests.{ltb-true, ltb-false, not-true, not-false}
 use lib.ListN.{get_or}
-use lib.Dec.{ltb}
 use Rattle.rules.specs.Records.{id_number}
 use Rattle.rules.specs.Calls.{entry_id}
 use Rattle.calls.specs.Slots.{entry_of, InUse}
-use Rattle.calls.proofs.Placing.{placed_in}
 use Rattle.calls.proofs.events.below.Given as goal
 
 abbrev pub invariant-loop-i : goal.invariant-loop-i

@@ -5,7 +5,6 @@ use mathlib.Core.List.{[]}
 use mathlib.Core.Option.{Option, none, some}
 use Prim.Native.Nat.{◌<◌, min}
 use native.Mathlib.Omega.{arith}
-use borrow.Author.Rules.{rules}
 use borrow.Author.Tests.{ne_eqb}
 use lib.ListN.{get_or}
 use Rattle.rules.specs.declared.Event.{Event}
@@ -40,11 +39,11 @@ pub put_in-requires : goal.put_in-requires
 put_in-requires c =
     let free : let a = c.args in find (id_of a.e) (slot_state a.d a.slots.now).entries ≡ none = found c.requires c.place_of-p.ensures c.if-p.false in
     let fits : let a = c.args in CanOpen c.place_of-p.result.at a.d.count a.slots.now = let at = c.place_of-p.ensures.placed.within in
-        record {
-          within = omega (arith, count_of c.requires);
-          room = room c.requires c.args.e (sym c.number-k.ensures ∙ c.if-k-ne0.false) (free);
-          size = c.requires.used.size;
-        } in
+    record {
+      within = omega (arith, count_of c.requires);
+      room = room c.requires c.args.e (sym c.number-k.ensures ∙ c.if-k-ne0.false) (free);
+      size = c.requires.used.size;
+    } in
     fits
 
 pub returns : goal.returns
@@ -53,11 +52,11 @@ returns c =
     let acts : (b : Bool) → let a = c.args in let p = c.place_of-p.result in let s = slot_state a.d a.slots.now in p.held ≡ b → accepted (delivered s a.e (cond b (some (get_or s.entries p.at no_entry)) none)) ≡ call (schedule_of a.d a.slots.now) (deliver a.e) = λ b q. rw (found c.requires c.place_of-p.ensures q) at (sym (does_it c.requires (deliver c.args.e) (sym c.number-k.ensures ∙ c.if-k-ne0.false))) in
     let free : let a = c.args in find (id_of a.e) (slot_state a.d a.slots.now).entries ≡ none = found c.requires c.place_of-p.ensures c.if-p.false in
     let fits : let a = c.args in CanOpen c.place_of-p.result.at a.d.count a.slots.now = let at = c.place_of-p.ensures.placed.within in
-        record {
-          within = omega (arith, count_of c.requires);
-          room = room c.requires c.args.e (sym c.number-k.ensures ∙ c.if-k-ne0.false) (free);
-          size = c.requires.used.size;
-        } in
+    record {
+      within = omega (arith, count_of c.requires);
+      room = room c.requires c.args.e (sym c.number-k.ensures ∙ c.if-k-ne0.false) (free);
+      size = c.requires.used.size;
+    } in
     let w = c.args.slots.now in
     let d = c.args.d in
     let v = c.args.e in

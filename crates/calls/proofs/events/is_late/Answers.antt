@@ -1,5 +1,4 @@
 -- The raw end or the effective end, each against the clock as the definition has it.
-use borrow.Author.Rules.{rules}
 use Rattle.rules.specs.Refusals.{late}
 use Rattle.calls.proofs.events.is_late.Goals as goal
 

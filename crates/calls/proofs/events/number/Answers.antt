@@ -5,7 +5,6 @@ use mathlib.Core.List.{[], ◌∷◌}
 use mathlib.Core.Option.{Option, none, some}
 use Prim.Native.Nat.{ℕ, ◌<◌, ◌≤◌}
 use native.Mathlib.Omega.{arith}
-use borrow.Author.Rules.{rules}
 use borrow.Author.Tests.{lt-ltb, le-ltb, lt-leb}
 use lib.Dec.{leb}
 use lib.ListN.{length, get_or}
@@ -33,16 +32,16 @@ pub returns-then-is_late : goal.returns-then-is_late
 unfolding checks event_checks
 returns-then-is_late c =
     let past : (b : Bool) → let a = c.args in let s = slot_state a.d a.slots.now in a.p.held ≡ b → first_of (checks s (deliver a.e)) ≡ rest s a.e (cond b (some (get_or s.entries a.p.at no_entry)) none) = λ b q. let pre = c.requires in
-        rw (found pre.ready pre.found q, le-ltb last_program _ c.if-e-gt-LAST.false, c.if-not-known.false, sym c.is_malformed.ensures ∙ c.if-is_malformed.false) in
+    rw (found pre.ready pre.found q, le-ltb last_program _ c.if-e-gt-LAST.false, c.if-not-known.false, sym c.is_malformed.ensures ∙ c.if-is_malformed.false) in
     sym (past false c.if-p.false ∙ rw (sym c.is_late.ensures ∙ c.if-is_late.true))
 
 pub returns : goal.returns
 unfolding checks event_checks
 returns c =
     let past : (b : Bool) → let a = c.args in let s = slot_state a.d a.slots.now in a.p.held ≡ b → first_of (checks s (deliver a.e)) ≡ rest s a.e (cond b (some (get_or s.entries a.p.at no_entry)) none) = λ b q. let pre = c.requires in
-        rw (found pre.ready pre.found q, le-ltb last_program _ c.if-e-gt-LAST.false, c.if-not-known.false, sym c.is_malformed.ensures ∙ c.if-is_malformed.false) in
+    rw (found pre.ready pre.found q, le-ltb last_program _ c.if-e-gt-LAST.false, c.if-not-known.false, sym c.is_malformed.ensures ∙ c.if-is_malformed.false) in
     let soon : let a = c.args in first_of (checks (slot_state a.d a.slots.now) (deliver a.e)) ≡ cond (leb most_events a.d.count) 10 0 = past false c.if-p.false
-        ∙ rw (sym c.is_late.ensures ∙ c.if-is_late.false, count_of c.requires.ready) in
+    ∙ rw (sym c.is_late.ensures ∙ c.if-is_late.false, count_of c.requires.ready) in
     let room : c.args.d.count < most_events = omega (arith, c.if-d-eq-EVENTS.false, c.requires.ready.used.few) in
     sym (soon ∙ rw (lt-leb most_events c.args.d.count room))
 
@@ -70,22 +69,22 @@ pub returns-then-equals : goal.returns-then-equals
 unfolding checks event_checks
 returns-then-equals c =
     let past : (b : Bool) → let a = c.args in let s = slot_state a.d a.slots.now in a.p.held ≡ b → first_of (checks s (deliver a.e)) ≡ rest s a.e (cond b (some (get_or s.entries a.p.at no_entry)) none) = λ b q. let pre = c.requires in
-        rw (found pre.ready pre.found q, le-ltb last_program _ c.if-e-gt-LAST.false, c.if-not-known.false, sym c.is_malformed.ensures ∙ c.if-is_malformed.false) in
+    rw (found pre.ready pre.found q, le-ltb last_program _ c.if-e-gt-LAST.false, c.if-not-known.false, sym c.is_malformed.ensures ∙ c.if-is_malformed.false) in
     let there : let a = c.args in (a.p.at < a.d.count) × (a.d.count ≤ most_events) = let pre = c.requires in inside pre.ready pre.found c.if-p.true in
     let compared : let a = c.args in first_of (checks (slot_state a.d a.slots.now) (deliver a.e)) ≡ cond (not c.equals.result) 8 0 = let a = c.args in
-        past true c.if-p.true
-        ∙ rw (slot_at a.slots.now a.d.count (within c.requires.ready) a.p.at (there).0, ← c.entry_of-h.ensures, sym c.equals.ensures) in
+    past true c.if-p.true
+    ∙ rw (slot_at a.slots.now a.d.count (within c.requires.ready) a.p.at (there).0, ← c.entry_of-h.ensures, sym c.equals.ensures) in
     sym (compared ∙ rw c.if-equals.true)
 
 pub returns-then-p : goal.returns-then-p
 unfolding checks event_checks
 returns-then-p c =
     let past : (b : Bool) → let a = c.args in let s = slot_state a.d a.slots.now in a.p.held ≡ b → first_of (checks s (deliver a.e)) ≡ rest s a.e (cond b (some (get_or s.entries a.p.at no_entry)) none) = λ b q. let pre = c.requires in
-        rw (found pre.ready pre.found q, le-ltb last_program _ c.if-e-gt-LAST.false, c.if-not-known.false, sym c.is_malformed.ensures ∙ c.if-is_malformed.false) in
+    rw (found pre.ready pre.found q, le-ltb last_program _ c.if-e-gt-LAST.false, c.if-not-known.false, sym c.is_malformed.ensures ∙ c.if-is_malformed.false) in
     let there : let a = c.args in (a.p.at < a.d.count) × (a.d.count ≤ most_events) = let pre = c.requires in inside pre.ready pre.found c.if-p.true in
     let compared : let a = c.args in first_of (checks (slot_state a.d a.slots.now) (deliver a.e)) ≡ cond (not c.equals.result) 8 0 = let a = c.args in
-        past true c.if-p.true
-        ∙ rw (slot_at a.slots.now a.d.count (within c.requires.ready) a.p.at (there).0, ← c.entry_of-h.ensures, sym c.equals.ensures) in
+    past true c.if-p.true
+    ∙ rw (slot_at a.slots.now a.d.count (within c.requires.ready) a.p.at (there).0, ← c.entry_of-h.ensures, sym c.equals.ensures) in
     sym (compared ∙ rw c.if-equals.false)
 
 pub is_late-requires : goal.is_late-requires
@@ -96,7 +95,7 @@ pub returns-then-d-eq-EVENTS : goal.returns-then-d-eq-EVENTS
 unfolding checks event_checks
 returns-then-d-eq-EVENTS c =
     let past : (b : Bool) → let a = c.args in let s = slot_state a.d a.slots.now in a.p.held ≡ b → first_of (checks s (deliver a.e)) ≡ rest s a.e (cond b (some (get_or s.entries a.p.at no_entry)) none) = λ b q. let pre = c.requires in
-        rw (found pre.ready pre.found q, le-ltb last_program _ c.if-e-gt-LAST.false, c.if-not-known.false, sym c.is_malformed.ensures ∙ c.if-is_malformed.false) in
+    rw (found pre.ready pre.found q, le-ltb last_program _ c.if-e-gt-LAST.false, c.if-not-known.false, sym c.is_malformed.ensures ∙ c.if-is_malformed.false) in
     let soon : let a = c.args in first_of (checks (slot_state a.d a.slots.now) (deliver a.e)) ≡ cond (leb most_events a.d.count) 10 0 = past false c.if-p.false
-        ∙ rw (sym c.is_late.ensures ∙ c.if-is_late.false, count_of c.requires.ready) in
+    ∙ rw (sym c.is_late.ensures ∙ c.if-is_late.false, count_of c.requires.ready) in
     sym (soon ∙ rw c.if-d-eq-EVENTS.true)

@@ -3,10 +3,8 @@ use Prim.Native.Nat.{◌≤◌, ◌<◌, ℕ, zero, suc, ◌-◌}
 use mathlib.Core.List.{[], List, ◌∷◌, ◌++◌, append_assoc}
 use native.Mathlib.Omega.{arith}
 use native.Mathlib.Numerals.{add-one}
-use borrow.Author.Rules.{rules}
 use lib.ListN.{length, get_or, take, drop, set, take-append-drop, length-take, drop_of_length-le, get_or-append}
 use lib.Seq.{take-suc, drop-cons, append_snoc, set_at, get_or-take, length-take-le}
-use Rattle.rules.specs.Records.{most_events}
 use Rattle.calls.proofs.events.put_in.Invariants.{opened}
 use Rattle.calls.proofs.events.put_in.Goals as goal
 

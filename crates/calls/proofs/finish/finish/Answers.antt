@@ -1,15 +1,11 @@
 use mathlib.Core.Path.{◌≡◌, sym, ◌∙◌, refl, ap, ap₂, subst}
-use mathlib.Core.Logic.{⊎_elim}
-use Prim.Native.Nat.{◌-◌, ◌≤◌, ℕ, suc, ◌+◌, ◌<◌}
+use Prim.Native.Nat.{◌≤◌, ℕ, suc, ◌+◌, ◌<◌}
 use native.Mathlib.Omega.{arith}
-use borrow.Author.Rules.{rules}
-use borrow.Author.Tests.{not-true, not-false}
 use mathlib.Core.Bool.{Bool, true, false, cond, not}
 use mathlib.Core.List.{List, [], ◌∷◌, ◌++◌, map, map-append, append-nil}
 use native.Mathlib.Numerals.{add-one}
 use lib.ListN.{length, get_or, set, take, length-set}
 use lib.Seq.{get_or-set_other, take-suc-set, set-get_or}
-use Rattle.rules.specs.declared.Entry.{Entry}
 use Rattle.rules.specs.Lists.{keep}
 use Rattle.rules.specs.Records.{has, most_events}
 use Rattle.calls.specs.Slots.{entry_of}
@@ -63,11 +59,11 @@ loop-i-preserved c =
     let a = c.args in
     let is = c.contains.ensures in
     elim c.if-not-contains.branch [
-      then-not-contains w ↦ (
+      | then-not-contains w ↦ (
         omega arith,
         rw (w.slots-is, w.k-is)
             (elim w.if-k-i.branch [
-              then-k-i u ↦ rw u.slots-is (kept a.ended l.i a.slots.now l.slots l.k l.invariant.1 (omega arith) (sym is ∙ w.if-not-contains.true))
+              | then-k-i u ↦ rw u.slots-is (kept a.ended l.i a.slots.now l.slots l.k l.invariant.1 (omega arith) (sym is ∙ w.if-not-contains.true))
               | else-k-i u ↦ rw u.slots-is (stayed a.ended l.i a.slots.now l.slots l.k l.invariant.1 (omega arith) (omega (arith, u.if-k-i.false)) (sym is ∙ w.if-not-contains.true))
             ]),
       )

@@ -1,22 +1,14 @@
 -- The loop has looked at the first i slots.
-use mathlib.Core.Path.{◌≡◌, sym, ◌∙◌, refl, ap, ap₂, subst}
-use mathlib.Core.Logic.{⊎_elim}
-use Prim.Native.Nat.{◌-◌, ◌≤◌, ℕ, suc, ◌+◌, ◌<◌}
-use native.Mathlib.Omega.{arith}
-use borrow.Author.Rules.{rules}
-use borrow.Author.Tests.{not-true, not-false}
-use mathlib.Core.Bool.{Bool, true, false, cond, not}
-use mathlib.Core.List.{List, [], ◌∷◌, ◌++◌, map, map-append, append-nil}
-use native.Mathlib.Numerals.{add-one}
-use lib.ListN.{length, get_or, set, take, length-set}
-use lib.Seq.{get_or-set_other, take-suc-set, set-get_or}
+use mathlib.Core.Path.{◌≡◌}
+use Prim.Native.Nat.{◌-◌, ◌≤◌, ℕ}
+use mathlib.Core.Bool.{not}
+use mathlib.Core.List.{List, [], map}
+use lib.ListN.{length, get_or, take}
 use Rattle.rules.specs.declared.Entry.{Entry}
 use Rattle.rules.specs.Lists.{keep}
 use Rattle.rules.specs.Records.{has, most_events}
 use Rattle.calls.specs.Slots.{entry_of}
 use Rattle.calls.specs.Sets.{event_at, places_to}
-use Rattle.calls.specs.Finished.{Finished}
-use Rattle.calls.proofs.Sets.{keep_append}
 use Rattle.calls.proofs.finish.finish.Given as goal
 
 -- The slots that are not in a set come to the front, one by one; those not looked at yet are as they were.

@@ -1,6 +1,5 @@
 -- The effective end of the event in the slot.
 use mathlib.Core.Path.{ap, ◌∙◌}
-use borrow.Author.Rules.{rules}
 use Rattle.rules.specs.Holding.{end_of}
 use Rattle.calls.proofs.held.ends_at.Goals as goal
 

@@ -1,5 +1,4 @@
 -- Each field is read as the definition has it.
-use borrow.Author.Rules.{rules}
 use Rattle.calls.specs.Slots.{entry_of}
 use Rattle.calls.proofs.held.entry_of.Goals as goal
 

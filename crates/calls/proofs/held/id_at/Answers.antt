@@ -1,5 +1,4 @@
 -- Two numbers of the slot are the halves of the id of the event in it.
-use borrow.Author.Rules.{rules}
 use Rattle.calls.specs.Slots.{entry_of}
 use Rattle.calls.proofs.held.id_at.Goals as goal
 

@@ -1,10 +1,8 @@
 use mathlib.Core.Path.{◌≡◌, ap}
-use Prim.Native.Nat.{◌-◌, ◌≤◌}
 use native.Mathlib.Omega.{arith}
-use borrow.Author.Rules.{rules}
 use lib.ListN.{replicate}
 use Rattle.rules.specs.Records.{most_events}
-use Rattle.calls.proofs.Slots.{laid, laid_more, laid_all}
+use Rattle.calls.proofs.Slots.{laid_more, laid_all}
 use Rattle.calls.proofs.held.put_together.Goals as goal
 
 pub loop-i-init : goal.loop-i-init

@@ -1,11 +1,8 @@
 -- The loop has laid out the events of the first i slots.
-use mathlib.Core.Path.{◌≡◌, ap}
+use mathlib.Core.Path.{◌≡◌}
 use Prim.Native.Nat.{◌-◌, ◌≤◌}
-use native.Mathlib.Omega.{arith}
-use borrow.Author.Rules.{rules}
-use lib.ListN.{replicate}
 use Rattle.rules.specs.Records.{most_events}
-use Rattle.calls.proofs.Slots.{laid, laid_more, laid_all}
+use Rattle.calls.proofs.Slots.{laid}
 use Rattle.calls.proofs.held.put_together.Given as goal
 
 abbrev pub invariant-loop-i : goal.invariant-loop-i

@@ -3,7 +3,6 @@ use mathlib.Core.Path.{◌≡◌, ap, ap₂, ◌∙◌}
 use Prim.Native.Nat.{◌+◌, ◌*◌, ◌/◌, ◌%◌}
 use native.Mathlib.Nat.{mod-eq_of_lt, div-add-mod'}
 use native.Mathlib.Omega.{arith}
-use borrow.Author.Rules.{rules}
 use Rattle.rules.specs.Records.{half_limit, halves, id_number, id_from}
 use Rattle.rules.proofs.IdLaws.{id_number_lem}
 use Rattle.rules.proofs.Ranges.{entry_fits}

@@ -1,11 +1,8 @@
 use mathlib.Core.Path.{◌≡◌, refl, ◌∙◌}
-use Prim.Native.Nat.{◌-◌, ◌≤◌}
-use mathlib.Core.List.{map}
 use native.Mathlib.Omega.{arith}
-use lib.ListN.{length, take, set, length-set}
-use Rattle.rules.specs.Records.{most_events}
+use lib.ListN.{set, length-set}
 use Rattle.rules.proofs.SoundState.{rules}
-use Rattle.calls.specs.Slots.{entry_of, InUse}
+use Rattle.calls.specs.Slots.{InUse}
 use Rattle.calls.proofs.Slots.{slot_more, apart_of}
 use Rattle.calls.proofs.held.take_apart.Goals as goal
 

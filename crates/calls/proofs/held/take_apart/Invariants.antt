@@ -1,13 +1,10 @@
 -- The loop has put the first i events into their slots.
-use mathlib.Core.Path.{◌≡◌, refl, ◌∙◌}
+use mathlib.Core.Path.{◌≡◌}
 use Prim.Native.Nat.{◌-◌, ◌≤◌}
 use mathlib.Core.List.{map}
-use native.Mathlib.Omega.{arith}
-use lib.ListN.{length, take, set, length-set}
+use lib.ListN.{length, take}
 use Rattle.rules.specs.Records.{most_events}
-use Rattle.rules.proofs.SoundState.{rules}
 use Rattle.calls.specs.Slots.{entry_of, InUse}
-use Rattle.calls.proofs.Slots.{slot_more, apart_of}
 use Rattle.calls.proofs.held.take_apart.Given as goal
 
 abbrev pub invariant-loop-i : goal.invariant-loop-i

@@ -1,5 +1,4 @@
 -- One mark of the slot is another.
-use borrow.Author.Rules.{rules}
 use Rattle.calls.proofs.Slots.{choice_in}
 use Rattle.calls.proofs.held.with_choice.Goals as goal
 

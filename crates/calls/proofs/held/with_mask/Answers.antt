@@ -1,6 +1,5 @@
 -- One number of the slot is another.
 use native.Mathlib.Omega.{arith}
-use borrow.Author.Rules.{rules}
 use Rattle.calls.proofs.Slots.{mask_in}
 use Rattle.calls.proofs.held.with_mask.Goals as goal
 

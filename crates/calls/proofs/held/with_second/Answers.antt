@@ -1,5 +1,4 @@
 -- One mark of the slot is set, by the choice.
-use borrow.Author.Rules.{rules}
 use Rattle.calls.proofs.Slots.{second_in, second_out}
 use Rattle.calls.proofs.held.with_second.Goals as goal
 

@@ -1,6 +1,5 @@
 -- Frame by frame, its call. A buffer that the call is not lent stays as it is.
 use mathlib.Core.Path.{refl}
-use borrow.Author.Rules.{rules}
 use Rattle.calls.proofs.Said.{on_bare, on_clock}
 use Rattle.calls.proofs.lines.act_on.Goals as goal
 

@@ -1,9 +1,8 @@
 -- A frame decoded before a line feed is the line; otherwise the search finds where the line ends.
-use mathlib.Core.Path.{◌≡◌, sym, ap, ◌∙◌, subst}
+use mathlib.Core.Path.{◌≡◌, sym, ap, ◌∙◌}
 use Prim.Native.Nat.{ℕ, ◌+◌, ◌-◌}
 use mathlib.Core.List.{List}
 use native.Mathlib.Omega.{arith}
-use borrow.Author.Rules.{rules}
 use lib.ListN.{length, take, drop, length-take, length-drop}
 use Rattle.rules.specs.Records.{id_size}
 use Rattle.frame.specs.Ends.{up_to, LikelyEnd}

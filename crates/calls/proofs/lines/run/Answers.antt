@@ -1,17 +1,14 @@
 use mathlib.Core.Path.{◌≡◌, refl, ap, ◌∙◌}
 use mathlib.Core.List.{List}
-use mathlib.Core.Logic.{⊎_elim}
-use Prim.Native.Nat.{ℕ, ◌+◌, ◌-◌, ◌<◌, ◌≤◌}
+use Prim.Native.Nat.{ℕ, ◌+◌, ◌<◌, ◌≤◌}
 use native.Mathlib.Omega.{arith}
-use borrow.Author.Rules.{rules}
 use lib.ListN.{length, drop}
-use Rattle.rules.specs.Bytes.{rows_size}
 use Rattle.rules.specs.Calls.{count}
-use Rattle.calls.specs.Slots.{schedule_of, InUse}
+use Rattle.calls.specs.Slots.{schedule_of}
 use Rattle.frame.specs.Ends.{ended_of, up_to}
 use Rattle.calls.specs.Lines.{runs, ran_into}
 use Rattle.calls.proofs.Returned.{same_schedule, ready}
-use Rattle.calls.proofs.Running.{Running, running_none, running_size, running_end, running_stop, running_past, running_more}
+use Rattle.calls.proofs.Running.{running_none, running_size, running_end, running_stop, running_past, running_more}
 use Rattle.frame.proofs.Ends.{end_within}
 use Rattle.calls.proofs.lines.run.Goals.{else-loop-from-test, then-loop-from-test+then-end-lines, then-loop-from-test+else-end-lines+then-out-at-lt-MOST}
 use Rattle.calls.proofs.lines.run.Goals as goal
@@ -75,7 +72,7 @@ returns c =
     let first = same_schedule c.head_of-d.ensures c.take_apart.ensures in
     let all : record { number = 0; value = count l.at; state = schedule_of l.d l.slots; read = l.from; bytes = l.out } ≡ ran_into (runs (length a.out.now) _ (ended_of a.lines.now)) a.out.now =
     elim c.loop-from-test.branch [
-      else-loop-from-test w ↦ running_past v w.loop-from-test.false
+      | else-loop-from-test w ↦ running_past v w.loop-from-test.false
       | then-loop-from-test+then-end-lines w ↦ running_end v _ w.next_line-found.ensures.end (omega (arith, w.if-end-lines.true))
       | then-loop-from-test+else-end-lines+then-out-at-lt-MOST w ↦
           running_stop v _ w.next_line-found.ensures.end

@@ -1,6 +1,5 @@
 -- A line that is no frame is refused; any other has the text of its call.
 use mathlib.Core.Path.{refl}
-use borrow.Author.Rules.{rules}
 use Rattle.calls.specs.Slots.{schedule_of}
 use Rattle.calls.proofs.Said.{says_bad, says_good}
 use Rattle.calls.proofs.lines.tell.Goals as goal

@@ -1,7 +1,6 @@
 -- Each return has the tests that led there; an accepted program is the schedule with one place set, and no slot changes.
 use mathlib.Core.Path.{refl, sym}
 use Rattle.rules.specs.Records.{last_program}
-use borrow.Author.Rules.{rules}
 use borrow.Author.Tests.{lt-ltb, le-ltb}
 use Rattle.rules.specs.Refusals.{program_checks}
 use Rattle.rules.specs.Calls.{does, checks}

@@ -1,7 +1,6 @@
 -- 14, or the holder, or the default.
 use mathlib.Core.Path.{refl, sym}
 use Rattle.rules.specs.Records.{last_control}
-use borrow.Author.Rules.{rules}
 use borrow.Author.Tests.{lt-ltb, le-ltb}
 use Rattle.rules.specs.Refusals.{ask_checks}
 use Rattle.rules.specs.Calls.{ask, answer_for, does, checks}

@@ -1,6 +1,5 @@
 -- Each return has the tests that led there.
 use mathlib.Core.Bool.{Bool, ◌&&◌}
-use borrow.Author.Rules.{rules}
 use borrow.Author.Tests.{not-true, not-false, le-leb, lt-leb}
 use Rattle.calls.proofs.programs.better_default.Goals as goal
 

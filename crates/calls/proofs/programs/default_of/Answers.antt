@@ -1,12 +1,9 @@
 use mathlib.Core.Path.{◌≡◌, refl}
-use Prim.Native.Nat.{◌-◌, ◌≤◌, ◌<◌}
+use Prim.Native.Nat.{◌-◌}
 use mathlib.Core.Bool.{false}
 use native.Mathlib.Omega.{arith}
-use borrow.Author.Rules.{rules}
-use lib.ListN.{length, drop}
-use Rattle.rules.specs.Records.{most_programs, most_controls}
-use Rattle.rules.specs.Calls.{best_default}
-use Rattle.calls.specs.Best.{ranked}
+use lib.ListN.{length}
+use Rattle.rules.specs.Records.{most_programs}
 use Rattle.calls.proofs.Asking.{default_next, default_none}
 use Rattle.calls.proofs.programs.default_of.Goals as goal
 

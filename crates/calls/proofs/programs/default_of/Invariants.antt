@@ -1,14 +1,10 @@
 -- The loop has looked at the programs from i on.
-use mathlib.Core.Path.{◌≡◌, refl}
-use Prim.Native.Nat.{◌-◌, ◌≤◌, ◌<◌}
-use mathlib.Core.Bool.{false}
-use native.Mathlib.Omega.{arith}
-use borrow.Author.Rules.{rules}
+use mathlib.Core.Path.{◌≡◌}
+use Prim.Native.Nat.{◌≤◌, ◌<◌}
 use lib.ListN.{length, drop}
 use Rattle.rules.specs.Records.{most_programs, most_controls}
 use Rattle.rules.specs.Calls.{best_default}
 use Rattle.calls.specs.Best.{ranked}
-use Rattle.calls.proofs.Asking.{default_next, default_none}
 use Rattle.calls.proofs.programs.default_of.Given as goal
 
 abbrev pub invariant-loop-i : goal.invariant-loop-i

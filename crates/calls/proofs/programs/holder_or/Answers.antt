@@ -1,12 +1,7 @@
-use mathlib.Core.Path.{◌≡◌, refl, sym, ap, ◌∙◌}
-use Prim.Native.Nat.{◌-◌, ◌≤◌, ◌<◌}
-use mathlib.Core.List.{map}
+use mathlib.Core.Path.{refl, sym, ap, ◌∙◌}
 use native.Mathlib.Omega.{arith}
-use borrow.Author.Rules.{rules}
-use lib.ListN.{take, drop}
-use Rattle.rules.specs.Records.{id_number, most_controls}
-use Rattle.rules.specs.Calls.{value_of, holder, holder_in}
-use Rattle.calls.specs.Slots.{entry_of, InUse}
+use Rattle.rules.specs.Records.{id_number}
+use Rattle.rules.specs.Calls.{value_of, holder}
 use Rattle.calls.proofs.Asking.{held_here, not_here, none_holds}
 use Rattle.calls.proofs.programs.holder_or.Goals as goal
 

@@ -1,14 +1,11 @@
 -- The loop has passed over the first i.
-use mathlib.Core.Path.{◌≡◌, refl, sym, ap, ◌∙◌}
+use mathlib.Core.Path.{◌≡◌}
 use Prim.Native.Nat.{◌-◌, ◌≤◌, ◌<◌}
 use mathlib.Core.List.{map}
-use native.Mathlib.Omega.{arith}
-use borrow.Author.Rules.{rules}
 use lib.ListN.{take, drop}
-use Rattle.rules.specs.Records.{id_number, most_controls}
-use Rattle.rules.specs.Calls.{value_of, holder, holder_in}
+use Rattle.rules.specs.Records.{most_controls}
+use Rattle.rules.specs.Calls.{value_of, holder_in}
 use Rattle.calls.specs.Slots.{entry_of, InUse}
-use Rattle.calls.proofs.Asking.{held_here, not_here, none_holds}
 use Rattle.calls.proofs.programs.holder_or.Given as goal
 
 abbrev pub invariant-loop-i : goal.invariant-loop-i

@@ -1,7 +1,6 @@
 -- The held mask of the event in the slot has the control, and its user is in.
 use mathlib.Core.Path.{ap, ap₂, ◌∙◌}
 use mathlib.Core.Bool.{not, ◌&&◌}
-use borrow.Author.Rules.{rules}
 use Rattle.rules.specs.Records.{has}
 use Rattle.calls.proofs.programs.is_governor.Goals as goal
 

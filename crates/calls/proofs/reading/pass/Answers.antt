@@ -1,6 +1,5 @@
 -- 12 with nothing changed, or what the moments leave; no buffer of `rows_size` bytes is too short for their rows.
 use mathlib.Core.Path.{sym, ◌∙◌}
-use borrow.Author.Rules.{rules}
 use Rattle.calls.specs.Slots.{schedule_of}
 use Rattle.calls.proofs.Clocked.{in_range, reads_none, reads_rows}
 use Rattle.calls.proofs.reading.pass.Goals as goal

@@ -5,7 +5,6 @@ use mathlib.Core.Bool.{Bool, true, false, ◌||◌}
 use mathlib.Core.List.{List, []}
 use lib.Dec.{ltb}
 use native.Mathlib.Omega.{arith}
-use borrow.Author.Rules.{rules}
 use lib.ListN.{length}
 use Rattle.rules.specs.declared.Schedule.{Schedule}
 use Rattle.rules.specs.Sound.{sound}
@@ -13,7 +12,6 @@ use Rattle.rules.specs.Records.{last_clock, most_rows}
 use Rattle.rules.specs.Bytes.{row_size}
 use Rattle.rules.specs.Calls.{count}
 use Rattle.octets.proofs.Fits.{copy_inside, copy_size}
-use Rattle.calls.specs.Slots.{schedule_of}
 use Rattle.calls.specs.Advanced.{Advanced}
 use Rattle.calls.proofs.Returned.{ready, advanced_from}
 use Rattle.calls.proofs.Clocked.{out_of_range, in_range, few, fits, too_short}

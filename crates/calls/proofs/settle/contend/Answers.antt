@@ -1,12 +1,11 @@
 use mathlib.Core.Path.{◌≡◌, sym, ap₂, ◌∙◌}
 use Prim.Native.Nat.{◌<◌}
 use native.Mathlib.Omega.{arith}
-use borrow.Author.Rules.{rules}
 use lib.Bits.{bit_and}
 use Rattle.rules.specs.Records.{cut, most_events}
 use Rattle.rules.specs.Holding.{better}
-use Rattle.calls.specs.Sets.{event_at, mask_at, rank_in}
-use Rattle.calls.proofs.Turns.{same_event_lem, same_rank, Contesting, none_met, met_below, met_mask, passes, yields, takes, contended}
+use Rattle.calls.specs.Sets.{mask_at, rank_in}
+use Rattle.calls.proofs.Turns.{same_event_lem, same_rank, none_met, met_below, met_mask, passes, yields, takes, contended}
 use Rattle.calls.proofs.settle.contend.Goals as goal
 
 pub loop-rest-init : goal.loop-rest-init
@@ -27,8 +26,8 @@ pub loop-rest-preserved-then-is_ahead : goal.loop-rest-preserved-then-is_ahead
 loop-rest-preserved-then-is_ahead c =
     let mask : c.held_at-mask.result ≡ mask_at c.args.slots.now c.lowest-next.result.place = c.held_at-mask.ensures ∙ met_mask c.loop-rest.invariant.0 c.lowest-next.ensures in
     let ahead : let a = c.args in c.is_ahead.result ≡ better (rank_in a.d.programs a.slots.now c.lowest-next.result.place) (rank_in a.d.programs a.slots.now a.i) = let a = c.args in
-        let v = c.loop-rest.invariant.0.masks in
-        c.is_ahead.ensures ∙ ap₂ better (same_rank v a.d.programs c.lowest-next.result.place) (same_rank v a.d.programs a.i) in
+    let v = c.loop-rest.invariant.0.masks in
+    c.is_ahead.ensures ∙ ap₂ better (same_rank v a.d.programs c.lowest-next.result.place) (same_rank v a.d.programs a.i) in
     let l = c.loop-rest in
     (rw (c.without-left.ensures, mask) (yields l.invariant.0 c.lowest-next.ensures (sym (ahead) ∙ c.if-is_ahead.true)), l.invariant.1)
 
@@ -37,8 +36,8 @@ pub loop-rest-preserved-else-is_ahead : goal.loop-rest-preserved-else-is_ahead
 loop-rest-preserved-else-is_ahead c =
     let mask : c.held_at-mask.result ≡ mask_at c.args.slots.now c.lowest-next.result.place = c.held_at-mask.ensures ∙ met_mask c.loop-rest.invariant.0 c.lowest-next.ensures in
     let ahead : let a = c.args in c.is_ahead.result ≡ better (rank_in a.d.programs a.slots.now c.lowest-next.result.place) (rank_in a.d.programs a.slots.now a.i) = let a = c.args in
-        let v = c.loop-rest.invariant.0.masks in
-        c.is_ahead.ensures ∙ ap₂ better (same_rank v a.d.programs c.lowest-next.result.place) (same_rank v a.d.programs a.i) in
+    let v = c.loop-rest.invariant.0.masks in
+    c.is_ahead.ensures ∙ ap₂ better (same_rank v a.d.programs c.lowest-next.result.place) (same_rank v a.d.programs a.i) in
     let l = c.loop-rest in
     let lost = c.without.ensures ∙ ap₂ cut (mask) l.invariant.1 in
     (takes l.invariant.0 c.lowest-next.ensures (sym (ahead) ∙ c.if-is_ahead.false) (rw lost at c.hold-now.ensures.0) (rw lost at c.hold-now.ensures.1), l.invariant.1)

@@ -1,13 +1,7 @@
 -- The has the holders that are not in the rest.
-use mathlib.Core.Path.{◌≡◌, sym, ap₂, ◌∙◌}
-use Prim.Native.Nat.{◌<◌}
-use native.Mathlib.Omega.{arith}
-use borrow.Author.Rules.{rules}
-use lib.Bits.{bit_and}
-use Rattle.rules.specs.Records.{cut, most_events}
-use Rattle.rules.specs.Holding.{better}
-use Rattle.calls.specs.Sets.{event_at, mask_at, rank_in}
-use Rattle.calls.proofs.Turns.{same_event_lem, same_rank, Contesting, none_met, met_below, met_mask, passes, yields, takes, contended}
+use mathlib.Core.Path.{◌≡◌}
+use Rattle.calls.specs.Sets.{event_at}
+use Rattle.calls.proofs.Turns.{Contesting}
 use Rattle.calls.proofs.settle.contend.Given as goal
 
 abbrev pub invariant-loop-rest : goal.invariant-loop-rest

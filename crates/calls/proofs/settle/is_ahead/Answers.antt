@@ -1,5 +1,4 @@
 -- `settle::is_ahead`: the ranks are read from the slots.
-use borrow.Author.Rules.{rules}
 use Rattle.calls.proofs.settle.is_ahead.Goals as goal
 
 pub returns : goal.returns

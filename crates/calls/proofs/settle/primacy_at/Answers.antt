@@ -1,5 +1,4 @@
 -- `settle::primacy_at`: the program's number stands in the slot.
-use borrow.Author.Rules.{rules}
 use Rattle.calls.proofs.settle.primacy_at.Goals as goal
 
 pub bounds-programs-number : goal.bounds-programs-number

@@ -4,7 +4,7 @@ use native.Mathlib.Nat.{one-mul}
 use lib.Bits.{and_le_l}
 use lib.Pow.{shl_exact}
 use Rattle.rules.specs.Records.{cut}
-use Rattle.calls.proofs.Sets.{has_within, Cutting, none_cut, one_cut, all_cut}
+use Rattle.calls.proofs.Sets.{has_within, none_cut, one_cut, all_cut}
 use Rattle.calls.proofs.settle.without.Goals as goal
 
 pub loop-rest-preserved : goal.loop-rest-preserved

@@ -1,7 +1,6 @@
 -- A part that is as long as the line is the line.
 use mathlib.Core.Path.{sym, ap, ◌∙◌}
 use native.Mathlib.Omega.{arith}
-use borrow.Author.Rules.{rules}
 use lib.Seq.{length-take-le, take_all}
 use Rattle.frame.specs.Decoded.{all_digits}
 use Rattle.frame.proofs.digits.are_digits.Goals as goal

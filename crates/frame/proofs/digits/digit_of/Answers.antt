@@ -1,6 +1,5 @@
 -- The ranges of the match are those of the definition.
 use native.Mathlib.Omega.{arith}
-use borrow.Author.Rules.{rules}
 use Rattle.frame.proofs.Pairs.{hex_low, hex_high}
 use Rattle.frame.proofs.digits.digit_of.Goals as goal
 

@@ -1,7 +1,6 @@
 -- The first two bytes are the first pair.
 use mathlib.Core.Path.{sym}
 use native.Mathlib.Omega.{arith}
-use borrow.Author.Rules.{rules}
 use Rattle.frame.proofs.Pairs.{no_pair, first_pair}
 use Rattle.frame.proofs.digits.first.Goals as goal
 

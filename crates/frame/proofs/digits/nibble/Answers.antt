@@ -1,7 +1,6 @@
 -- The ranges of the match are those of the definition.
 use mathlib.Core.Path.{sym}
 use native.Mathlib.Omega.{arith}
-use borrow.Author.Rules.{rules}
 use borrow.Author.Tests.{le-leb, lt-leb}
 use Rattle.rules.specs.Frames.{digit}
 use Rattle.frame.proofs.Pairs.{digit_low, digit_high}

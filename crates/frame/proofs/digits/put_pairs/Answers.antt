@@ -1,9 +1,7 @@
 use mathlib.Core.Path.{◌≡◌}
-use Prim.Native.Nat.{◌-◌, ◌≤◌}
 use native.Mathlib.Omega.{arith}
-use borrow.Author.Rules.{rules}
-use lib.ListN.{take, length-set}
-use Rattle.octets.proofs.Writes.{Wrote, wrote_none, same_size}
+use lib.ListN.{length-set}
+use Rattle.octets.proofs.Writes.{wrote_none, same_size}
 use Rattle.frame.specs.Encoded.{hexed}
 use Rattle.frame.proofs.Writes.{one_pair}
 use Rattle.frame.proofs.digits.put_pairs.Goals as goal

@@ -1,12 +1,8 @@
 -- The loop has written the first i pairs.
-use mathlib.Core.Path.{◌≡◌}
 use Prim.Native.Nat.{◌-◌, ◌≤◌}
-use native.Mathlib.Omega.{arith}
-use borrow.Author.Rules.{rules}
-use lib.ListN.{take, length-set}
-use Rattle.octets.proofs.Writes.{Wrote, wrote_none, same_size}
+use lib.ListN.{take}
+use Rattle.octets.proofs.Writes.{Wrote}
 use Rattle.frame.specs.Encoded.{hexed}
-use Rattle.frame.proofs.Writes.{one_pair}
 use Rattle.frame.proofs.digits.put_pairs.Given as goal
 
 abbrev pub invariant-loop-i : goal.invariant-loop-i

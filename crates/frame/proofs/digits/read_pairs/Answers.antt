@@ -1,10 +1,9 @@
 use mathlib.Core.Path.{◌≡◌, refl}
-use Prim.Native.Nat.{◌+◌, ◌*◌, ◌-◌, ◌≤◌}
+use Prim.Native.Nat.{◌+◌, ◌*◌}
 use native.Mathlib.Omega.{arith}
-use borrow.Author.Rules.{rules}
 use lib.ListN.{get_or}
 use Rattle.frame.proofs.Worths.{worth_bound, pair_good, pair_bad}
-use Rattle.frame.proofs.Passes.{PairsPassed, passed_none, passed_more, no_digit, passed_all}
+use Rattle.frame.proofs.Passes.{passed_none, passed_more, no_digit, passed_all}
 use Rattle.frame.proofs.digits.read_pairs.Goals as goal
 
 pub loop-i-init : goal.loop-i-init

@@ -1,5 +1,4 @@
 -- Each entry is as the definition says.
-use borrow.Author.Rules.{rules}
 use Rattle.frame.proofs.Worths.{values, values_at}
 use Rattle.frame.proofs.digits.table.Goals as goal
 

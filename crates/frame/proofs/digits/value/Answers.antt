@@ -1,6 +1,5 @@
 -- The entry of the byte.
 use native.Mathlib.Omega.{arith}
-use borrow.Author.Rules.{rules}
 use Rattle.frame.proofs.digits.value.Goals as goal
 
 pub returns : goal.returns

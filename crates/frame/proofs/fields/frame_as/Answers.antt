@@ -1,7 +1,6 @@
 -- Kind by kind, its fields, which are all there.
 use mathlib.Core.Path.{sym, ◌∙◌}
 use native.Mathlib.Omega.{arith}
-use borrow.Author.Rules.{rules}
 use Rattle.rules.specs.Records.{id_size}
 use Rattle.octets.proofs.Fits.{get_inside, get_fits, id_inside, event_inside}
 use Rattle.frame.specs.Decoded.{frame_as_in}

@@ -2,7 +2,6 @@
 use mathlib.Core.Path.{◌≡◌, ◌∙◌}
 use mathlib.Core.Logic.{⊎_elim}
 use native.Mathlib.Omega.{arith}
-use borrow.Author.Rules.{rules}
 use Rattle.rules.specs.Records.{id_size, id_number}
 use Rattle.rules.specs.Bytes.{big}
 use Rattle.octets.proofs.Fits.{put_inside, put_event_inside}

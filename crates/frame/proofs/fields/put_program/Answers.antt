@@ -1,7 +1,6 @@
 -- Field after field.
 use mathlib.Core.Path.{refl}
 use native.Mathlib.Omega.{arith}
-use borrow.Author.Rules.{rules}
 use Rattle.rules.specs.Bytes.{big}
 use Rattle.octets.proofs.Writes.{wrote_none, then}
 use Rattle.frame.proofs.fields.put_program.Goals as goal

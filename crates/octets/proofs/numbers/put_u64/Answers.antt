@@ -2,7 +2,6 @@
 use mathlib.Core.Path.{◌≡◌}
 use Prim.Native.Nat.{◌+◌}
 use native.Mathlib.Omega.{arith}
-use borrow.Author.Rules.{rules}
 use lib.ListN.{length-set}
 use Rattle.octets.proofs.Writes.{left_all, left_less, left_none}
 use Rattle.octets.proofs.numbers.put_u64.Goals as goal

@@ -1,6 +1,5 @@
 -- Two halves.
 use mathlib.Core.Path.{sym}
-use borrow.Author.Rules.{rules}
 use Rattle.octets.proofs.Joins.{read_join}
 use Rattle.octets.proofs.numbers.u16_at.Goals as goal
 
