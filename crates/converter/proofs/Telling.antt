@@ -8,19 +8,18 @@ use borrow.Author.Tests.{eqb-true, le-leb}
 use lib.Dec.{eqb}
 use lib.ListN.{length, take, length-append}
 use Rattle.rules.specs.declared.Answer.{Answer}
-use Rattle.rules.specs.declared.Frame.{Frame}
 use Rattle.rules.specs.declared.Line.{Line}
 use Rattle.rules.specs.declared.Line.TheVariants.{Good, Bad}
 use Rattle.rules.specs.Lists.{over_at}
-use Rattle.rules.specs.Calls.{Value, nothing, count, number_of, value_of, counted}
+use Rattle.rules.specs.Calls.{count, number_of, value_of, counted}
 use Rattle.rules.specs.Frames.{line_in}
 use Rattle.rules.specs.Printed.{most_digits, line_feed}
 use Rattle.rules.specs.Converted.{Turned, LineOutcome, turned_text}
 use Rattle.rules.proofs.Over.{over_then}
 use Rattle.frame.specs.declared.Width.{Width}
 use Rattle.frame.specs.Decoded.{width_of, longest_line}
-use Rattle.frame.specs.Ends.{up_to}
-use Rattle.frame.proofs.Ends.{LikelyEnd, end_of_frame}
+use Rattle.frame.specs.Ends.{up_to, LikelyEnd}
+use Rattle.frame.proofs.Ends.{end_of_frame}
 use Rattle.text.specs.Texts.{Stands}
 use Rattle.text.proofs.Printing.{decimal_length}
 use Rattle.convert.specs.Turns.{other_than, turned_to, answered, refused_line, written_at, turned_at}

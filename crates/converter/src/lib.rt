@@ -1,18 +1,22 @@
-// Document 02, #105. Lines from standard input, each turned to a width, on standard output. It reads in large pieces and keeps no more of its input than one
+// Document 02, #105. Lines from a reader, each turned to a width, to a writer. It reads in large pieces and keeps no more of its input than one
 // buffer; it writes whole blocks, so nothing until there is one or the input ends.
 
 #![tactic(auto)]
 
 ghost use Rattle.std.specs.Prelude.{◌≡◌, ◌+◌, length};
 ghost use Rattle.text.specs.Texts.{Stands};
+ghost use Rattle.input.specs.Kept.{buffer_size};
 ghost use Rattle.converter.specs.Pieces.{most_turned, block_size, end_at, end_text, CanEnd, CanTell, Tells, CanPrint, PrintsSome, Leaves, CanGoOn, Rests};
 ghost use Rattle.converter.specs.Cut.{CutLines};
 
 use frame::Width;
-use libc::{STDIN_FILENO, STDOUT_FILENO};
+use std::io::{Read, Write};
 
 // Room for the text of any line: a turned line and its line feed. The text of a refusal is shorter.
 const MOST: usize = frame::LONGEST_LINE + 1;
+
+// The input is read in pieces of up to so many bytes.
+const BUFFER: usize = 65536;
 
 // The output is written in blocks of whole pages: a system takes these in less time than parts of pages.
 const BLOCK: usize = 65536;
@@ -98,7 +102,13 @@ struct Piece {
 }
 
 // Turns all lines that end in a piece, and writes their texts, up to what makes no block. The bytes that it leaves go on where the texts of these lines stop.
-fn print_lines(to: Width, piece: &[u8], out: &mut [u8], pending: usize) -> Piece
+fn print_lines(
+    writer: &mut impl Write,
+    to: Width,
+    piece: &[u8],
+    out: &mut [u8],
+    pending: usize,
+) -> Piece
     requires { CanPrint pending out.old }
     ensures { Leaves to piece.now pending out.old result out.new }
 {
@@ -115,7 +125,7 @@ fn print_lines(to: Width, piece: &[u8], out: &mut [u8], pending: usize) -> Piece
                 written: true,
             };
         }
-        if !io::write_all(STDOUT_FILENO, &out[..BLOCK]) {
+        if writer.write_all(&out[..BLOCK]).is_err() {
             return Piece {
                 read: from,
                 pending: 0,
@@ -135,12 +145,19 @@ struct Rest {
 }
 
 // Reads a piece behind what is kept of a line. No byte more is the end of the input, and so is a read that fails.
-fn take_turn(to: Width, kept: usize, buffer: &mut [u8], pending: usize, out: &mut [u8]) -> Rest
+fn take_turn(
+    reader: &mut impl Read,
+    writer: &mut impl Write,
+    to: Width,
+    kept: usize,
+    buffer: &mut [u8],
+    pending: usize,
+    out: &mut [u8],
+) -> Rest
     requires { CanGoOn kept buffer.old pending out.old }
     ensures { Rests result }
 {
-    let got = libc::read(STDIN_FILENO, &mut buffer[kept..]);
-    let end = kept + io::count(got, &buffer[kept..]);
+    let end = kept + reader.read(&mut buffer[kept..]).unwrap_or(0);
     if end == kept {
         return Rest {
             kept,
@@ -148,7 +165,7 @@ fn take_turn(to: Width, kept: usize, buffer: &mut [u8], pending: usize, out: &mu
             more: false,
         };
     }
-    let piece = print_lines(to, &buffer[..end], out, pending);
+    let piece = print_lines(writer, to, &buffer[..end], out, pending);
     Rest {
         kept: input::keep(buffer, piece.read, end),
         pending: piece.pending,
@@ -157,18 +174,32 @@ fn take_turn(to: Width, kept: usize, buffer: &mut [u8], pending: usize, out: &mu
 }
 
 // The last line may lack its line feed, and the last block is a part of one.
-fn finish(to: Width, kept: usize, buffer: &mut [u8], pending: usize, out: &mut [u8])
+fn finish(
+    writer: &mut impl Write,
+    to: Width,
+    kept: usize,
+    buffer: &mut [u8],
+    pending: usize,
+    out: &mut [u8],
+)
     requires { CanGoOn kept buffer.old pending out.old }
 {
     if kept == 0 {
-        io::write_all(STDOUT_FILENO, &out[..pending]);
+        let _ = writer.write_all(&out[..pending]);
         return;
     }
     buffer[kept] = b'\n';
     let end = kept + 1;
-    let last = print_lines(to, &buffer[..end], out, pending);
+    let last = print_lines(writer, to, &buffer[..end], out, pending);
     let n = last.pending;
-    io::write_all(STDOUT_FILENO, &out[..n]);
+    let _ = writer.write_all(&out[..n]);
+}
+
+// Room for a piece of the input.
+fn no_input() -> [u8; BUFFER]
+    ensures { buffer_size ≡ length result }
+{
+    [0; BUFFER]
 }
 
 // Room for a block and one text more.
@@ -178,20 +209,20 @@ fn no_texts() -> [u8; BLOCK + MOST]
     [0; BLOCK + MOST]
 }
 
-// Document 02, #105. All lines of standard input. `turns` begins with more than any run takes.
-pub fn run(to: Width) {
-    let mut buffer = io::large_buffer();
+// Document 02, #105. All lines of the reader. `turns` begins with more than any run takes.
+pub fn run(reader: &mut impl Read, writer: &mut impl Write, to: Width) {
+    let mut buffer = no_input();
     let mut out = no_texts();
     let mut kept = 0;
     let mut pending = 0;
     let mut turns = u64::MAX;
     while 0 < turns {
-        let t = take_turn(to, kept, &mut buffer, pending, &mut out);
+        let t = take_turn(reader, writer, to, kept, &mut buffer, pending, &mut out);
         kept = t.kept;
         pending = t.pending;
         turns = input::left(turns, t.more);
     }
-    finish(to, kept, &mut buffer, pending, &mut out);
+    finish(writer, to, kept, &mut buffer, pending, &mut out);
 }
 
 // Document 02, #105. Of a line that has not ended no more counts than what is kept of it. This function does nothing: it carries the law as its promise.

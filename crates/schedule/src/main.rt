@@ -3,10 +3,15 @@
 
 #![tactic(auto)]
 
+ghost use Rattle.std.specs.Prelude.{◌≡◌, length};
+ghost use Rattle.input.specs.Kept.{buffer_size};
 ghost use Rattle.schedule.specs.Pieces.{CanPrint, CanGoOn, Leaves, Rests};
 
-use libc::{STDIN_FILENO, STDOUT_FILENO};
 use rules::Schedule;
+use std::io::{Read, Write};
+
+// The input is read in pieces of up to so many bytes, and there is room for as many bytes of texts.
+const BUFFER: usize = 65536;
 
 // What the lines of a piece left: the schedule, how many bytes they were, and whether their texts could be written.
 #[derive(Clone, Copy)]
@@ -17,7 +22,7 @@ struct Piece {
 }
 
 // Runs over all lines that end in a piece, and writes their texts. The schedule and the bytes that it leaves go on where the texts of these lines stop.
-fn print_lines(mut s: Schedule, piece: &[u8], out: &mut [u8]) -> Piece
+fn print_lines(writer: &mut impl Write, mut s: Schedule, piece: &[u8], out: &mut [u8]) -> Piece
     requires { CanPrint s out.old }
     ensures { Leaves s piece.now result }
 {
@@ -29,7 +34,7 @@ fn print_lines(mut s: Schedule, piece: &[u8], out: &mut [u8]) -> Piece
         let answer = ran.answer;
         // No refusal, since the schedule is sound: how many bytes the run wrote.
         let n = answer.count();
-        if !io::write_all(STDOUT_FILENO, &out[..n]) {
+        if writer.write_all(&out[..n]).is_err() {
             return Piece {
                 schedule: s,
                 read: from,
@@ -56,12 +61,18 @@ struct Rest {
 }
 
 // Reads a piece behind what is kept of a line. No byte more is the end of the input, and so is a read that fails.
-fn take_turn(s: Schedule, kept: usize, buffer: &mut [u8], out: &mut [u8]) -> Rest
+fn take_turn(
+    reader: &mut impl Read,
+    writer: &mut impl Write,
+    s: Schedule,
+    kept: usize,
+    buffer: &mut [u8],
+    out: &mut [u8],
+) -> Rest
     requires { CanGoOn s kept buffer.old out.old }
     ensures { Rests result }
 {
-    let got = libc::read(STDIN_FILENO, &mut buffer[kept..]);
-    let to = kept + io::count(got, &buffer[kept..]);
+    let to = kept + reader.read(&mut buffer[kept..]).unwrap_or(0);
     if to == kept {
         return Rest {
             schedule: s,
@@ -69,7 +80,7 @@ fn take_turn(s: Schedule, kept: usize, buffer: &mut [u8], out: &mut [u8]) -> Res
             more: false,
         };
     }
-    let piece = print_lines(s, &buffer[..to], out);
+    let piece = print_lines(writer, s, &buffer[..to], out);
     let schedule = piece.schedule;
     Rest {
         schedule,
@@ -79,29 +90,38 @@ fn take_turn(s: Schedule, kept: usize, buffer: &mut [u8], out: &mut [u8]) -> Res
 }
 
 // The last line may lack its line feed.
-fn finish(s: Schedule, kept: usize, buffer: &mut [u8], out: &mut [u8])
+fn finish(writer: &mut impl Write, s: Schedule, kept: usize, buffer: &mut [u8], out: &mut [u8])
     requires { CanGoOn s kept buffer.old out.old }
 {
     if 0 < kept {
         buffer[kept] = b'\n';
         let end = kept + 1;
-        print_lines(s, &buffer[..end], out);
+        print_lines(writer, s, &buffer[..end], out);
     }
 }
 
+// Room for a piece of the input, or for texts.
+fn no_bytes() -> [u8; BUFFER]
+    ensures { buffer_size ≡ length result }
+{
+    [0; BUFFER]
+}
+
 // `turns` begins with more than any run takes.
-fn main() {
-    let mut buffer = io::large_buffer();
-    let mut out = io::large_buffer();
+fn main(rt: HostRuntime) {
+    let mut reader = rt.stdin();
+    let mut writer = rt.stdout();
+    let mut buffer = no_bytes();
+    let mut out = no_bytes();
     let mut s = Schedule::fresh();
     let mut kept = 0;
     let mut turns = u64::MAX;
     while 0 < turns {
-        let t = take_turn(s, kept, &mut buffer, &mut out);
+        let t = take_turn(&mut reader, &mut writer, s, kept, &mut buffer, &mut out);
         let next = t.schedule;
         s = next;
         kept = t.kept;
         turns = input::left(turns, t.more);
     }
-    finish(s, kept, &mut buffer, &mut out);
+    finish(&mut writer, s, kept, &mut buffer, &mut out);
 }

@@ -4,6 +4,6 @@
 
 use frame::Width;
 
-fn main() {
-    converter::run(Width::Short);
+fn main(rt: HostRuntime) {
+    converter::run(&mut rt.stdin(), &mut rt.stdout(), Width::Short);
 }
