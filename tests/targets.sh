@@ -1,5 +1,5 @@
 #!/bin/sh
-# The archives for other targets: builds them all and looks at each, from the archive that a plain `rt staticlib hadulmir` wrote.
+# The archives for other targets: builds them all and looks at each, from the archive that `make archive` wrote.
 #     tests/targets.sh PATH/libhadulmir.a
 # Nothing is run here; tests/targets/run does that. Ends with 'targets: N passed, M failed', and with 0 if M is 0.
 set -u
@@ -20,7 +20,7 @@ built=build/targets
 
 cp "$plain" "$out/plain.a" || exit 2
 step "the archives build" targets/build
-step "x86_64 is the archive that a plain rt staticlib writes" cmp "$out/plain.a" $built/x86_64/libhadulmir.a
+step "x86_64 is the archive that make archive writes" cmp "$out/plain.a" $built/x86_64/libhadulmir.a
 names=$(sed 's/#.*//' targets/list | awk 'NF { print $1 }')
 again() {
     targets/build -r -d "$out/again" || return 1
