@@ -246,7 +246,8 @@ pub(crate) fn head_of(s: Schedule) -> Head
     }
 }
 
-// The events of a schedule into slots.
+// The events of a schedule into slots. Not inlined, as the way back is not: an array of events is then on the stack while it is used, and no longer.
+#[inline(never)]
 pub(crate) fn take_apart(s: Schedule, slots: &mut Slots)
     requires { CanTake s slots.old }
     ensures { TakenApart s slots.new }
@@ -261,6 +262,7 @@ pub(crate) fn take_apart(s: Schedule, slots: &mut Slots)
 }
 
 // A schedule by value again.
+#[inline(never)]
 pub(crate) fn put_together(d: Head, slots: &Slots) -> Schedule
     requires { InUse d.count slots.now }
     ensures { result ≡ schedule_of d slots.now }

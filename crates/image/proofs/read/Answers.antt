@@ -18,7 +18,9 @@ formed-if l n p e d = rw (eq-eqb _ _ n, p, e, d)
 
 pub returns-then-b-ne-SIZE : goal.returns-then-b-ne-SIZE
 unfolding read_of formed
-returns-then-b-ne-SIZE c = c.no_image.ensures ∙ simp (ne_eqb _ image_size c.if-b-ne-SIZE.true)
+returns-then-b-ne-SIZE c =
+    let other : length c.args.b.now ≡ image_size → ⊥ = c.if-b-ne-SIZE.true in
+    c.no_image.ensures ∙ simp (ne_eqb _ image_size other)
 
 pub returns-then-not-is_marked : goal.returns-then-not-is_marked
 unfolding read_of formed

@@ -98,4 +98,5 @@ returns-then-d-eq-EVENTS c =
     rw (found pre.ready pre.found q, le-ltb last_program _ c.if-e-gt-LAST.false, c.if-not-known.false, sym c.is_malformed.ensures ∙ c.if-is_malformed.false) in
     let soon : let a = c.args in first_of (checks (slot_state a.d a.slots.now) (deliver a.e)) ≡ cond (leb most_events a.d.count) 10 0 = past false c.if-p.false
     ∙ rw (sym c.is_late.ensures ∙ c.if-is_late.false, count_of c.requires.ready) in
-    sym (soon ∙ rw c.if-d-eq-EVENTS.true)
+    let full : c.args.d.count ≡ most_events = c.if-d-eq-EVENTS.true in
+    sym (soon ∙ rw full)

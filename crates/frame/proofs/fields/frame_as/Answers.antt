@@ -1,6 +1,8 @@
 -- Kind by kind, its fields, which are all there.
-use mathlib.Core.Path.{sym, ◌∙◌}
+use mathlib.Core.Path.{sym, ap, ◌∙◌}
 use native.Mathlib.Omega.{arith}
+use Rattle.rules.specs.declared.Frame.TheVariants as frame
+use Rattle.rules.specs.declared.Line.TheVariants.{Good}
 use Rattle.rules.specs.Records.{id_size}
 use Rattle.octets.proofs.Fits.{get_inside, get_fits, id_inside, event_inside}
 use Rattle.frame.specs.Decoded.{frame_as_in}
@@ -16,13 +18,13 @@ returns-in-1 c =
 
 pub returns-in-2 : goal.returns-in-2
 unfolding frame_as_in
-returns-in-2 c = rw (c.in-2.is, c.get_id.ensures ∙ id_inside _ _ (omega arith))
+returns-in-2 c = rw c.in-2.is (ap (λ i. Good (frame.Cancel i)) (c.get_id.ensures ∙ id_inside _ _ (omega arith)))
 
 pub returns-in-3 : goal.returns-in-3
 unfolding frame_as_in
 returns-in-3 c =
     let time = c.get.ensures ∙ get_inside _ _ _ (omega arith) (omega arith) in
-    rw (c.in-3.is, time)
+    rw c.in-3.is (ap (λ t. Good (frame.Clock t)) time)
 
 pub overflow_cast-defaults : goal.overflow_cast-defaults
 overflow_cast-defaults c = record { fits = get_fits _ (λ i. (c.type_inv.b i).fits) 4 3 (omega arith) (omega arith) c.get-defaults.ensures }

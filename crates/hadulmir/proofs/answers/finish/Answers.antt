@@ -1,5 +1,5 @@
 -- A refused call is not stored; an accepted one is, since the buffer has an image's length.
-use mathlib.Core.Path.{◌∙◌}
+use mathlib.Core.Path.{◌≡◌, ◌∙◌}
 use borrow.Author.Tests.{eq-eqb, ne_eqb}
 use Rattle.hadulmir.specs.Outcomes.{finished}
 use Rattle.hadulmir.proofs.Facing.{written_as}
@@ -17,4 +17,5 @@ returns c =
     let n = c.number in
     let p = written_as c.args.a.schedule c.args.image.now c.write.ensures in
     let fits = p.fits ∙ eq-eqb _ _ c.requires.size in
-    rw (c.returned-2.ensures, ← n.ensures, c.if-number-ne0.false, p.leaves, fits)
+    let accepted : n.result ≡ 0 = c.if-number-ne0.false in
+    rw (c.returned-2.ensures, ← n.ensures, accepted, p.leaves, fits)
