@@ -1,13 +1,19 @@
 use mathlib.Core.Path.{◌≡◌, sym, ◌∙◌}
 use mathlib.Core.Logic.{⊎_elim}
 use mathlib.Core.Bool.{not}
-use Prim.Native.Nat.{◌+◌, ◌*◌, ◌≤◌}
+use mathlib.Core.List.{List}
+use Prim.Native.Nat.{ℕ, ◌+◌, ◌*◌, ◌≤◌}
 use native.Mathlib.Omega.{arith}
 use borrow.Author.Tests.{leb-true}
 use lib.Dec.{leb, ltb}
 use Rattle.rules.proofs.Tests.{both, each_true}
+use Rattle.calls.specs.Agenda.{Inserted}
 use Rattle.calls.proofs.Changes.{Plans, WithStart, passed, planned, no_changes, event_more, agenda_of}
 use Rattle.calls.proofs.agenda.gather.Goals as goal
+
+-- a change is planned as the number that it is
+put_as : {m x y : ℕ} {a b : List ℕ} → x ≡ y → Inserted m x a b → Inserted m y a b
+put_as e p = rw e at p
 
 pub start_at-requires : goal.start_at-requires
 start_at-requires c =
@@ -23,12 +29,12 @@ loop-i-preserved c =
     let a = c.args in
     let begun : (c.if-is_coming.m ≤ 2 * l.i + 1) × Plans (WithStart a.clock a.to l.i a.slots.now c.is_coming.result c.begins_at-begins.result) c.if-is_coming.m c.if-is_coming.agenda =
     ⊎_elim
-    (λ w. (omega (arith, l.invariant.1, w.m-is), rw (w.agenda-is, w.m-is) (planned l.invariant.2 w.if-is_coming.true (rw w.start_at.ensures at w.plan.ensures))))
+    (λ w. (omega (arith, l.invariant.1, w.m-is), rw (w.agenda-is, w.m-is) (planned l.invariant.2 w.if-is_coming.true (put_as w.start_at.ensures w.plan.ensures))))
     (λ w. (omega (arith, l.invariant.1, w.m-is), rw (w.agenda-is, w.m-is) (passed l.invariant.2 (λ t. both _ t w.if-is_coming.false))))
     c.if-is_coming.branch-raw in
     let more = event_more a.clock a.to l.i a.slots.now c.is_cancelled_at.ensures c.begins_at-begins.ensures c.is_coming.ensures c.ends_at-ends.ensures in
     ⊎_elim
-    (λ w. (omega arith, omega (arith, begun.0, w.m-is), rw (w.agenda-is, w.m-is) (more _ _ (planned begun.1 w.if-ends-to.true (rw w.end_at.ensures at w.plan-then-ends-to.ensures)))))
+    (λ w. (omega arith, omega (arith, begun.0, w.m-is), rw (w.agenda-is, w.m-is) (more _ _ (planned begun.1 w.if-ends-to.true (put_as w.end_at.ensures w.plan-then-ends-to.ensures)))))
     (λ w. (omega arith, omega (arith, begun.0, w.m-is), rw (w.agenda-is, w.m-is) (more _ _ (passed begun.1 (λ t. omega (arith, w.if-ends-to.false))))))
     c.if-ends-to.branch-raw
 
@@ -49,7 +55,7 @@ plan-requires-then-ends-to c =
     let a = c.args in
     let begun : (c.if-is_coming.m ≤ 2 * l.i + 1) × Plans (WithStart a.clock a.to l.i a.slots.now c.is_coming.result c.begins_at-begins.result) c.if-is_coming.m c.if-is_coming.agenda =
     ⊎_elim
-    (λ w. (omega (arith, l.invariant.1, w.m-is), rw (w.agenda-is, w.m-is) (planned l.invariant.2 w.if-is_coming.true (rw w.start_at.ensures at w.plan.ensures))))
+    (λ w. (omega (arith, l.invariant.1, w.m-is), rw (w.agenda-is, w.m-is) (planned l.invariant.2 w.if-is_coming.true (put_as w.start_at.ensures w.plan.ensures))))
     (λ w. (omega (arith, l.invariant.1, w.m-is), rw (w.agenda-is, w.m-is) (passed l.invariant.2 (λ t. both _ t w.if-is_coming.false))))
     c.if-is_coming.branch-raw in
     (omega (arith, begun.0), begun.1.filled)
@@ -60,7 +66,7 @@ overflow_add-m-then-ends-to c =
     let a = c.args in
     let begun : (c.if-is_coming.m ≤ 2 * l.i + 1) × Plans (WithStart a.clock a.to l.i a.slots.now c.is_coming.result c.begins_at-begins.result) c.if-is_coming.m c.if-is_coming.agenda =
     ⊎_elim
-    (λ w. (omega (arith, l.invariant.1, w.m-is), rw (w.agenda-is, w.m-is) (planned l.invariant.2 w.if-is_coming.true (rw w.start_at.ensures at w.plan.ensures))))
+    (λ w. (omega (arith, l.invariant.1, w.m-is), rw (w.agenda-is, w.m-is) (planned l.invariant.2 w.if-is_coming.true (put_as w.start_at.ensures w.plan.ensures))))
     (λ w. (omega (arith, l.invariant.1, w.m-is), rw (w.agenda-is, w.m-is) (passed l.invariant.2 (λ t. both _ t w.if-is_coming.false))))
     c.if-is_coming.branch-raw in
     omega (arith, begun.0)
