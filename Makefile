@@ -11,7 +11,7 @@
 # make picture   draws the recorded day and the bench marks T10 and T11
 # make picture LIST=my.frames OUT=my.svg [ARGUMENTS="--from 5000 --to 6000"]   draws another list
 # make fuzz   lines and images by a coverage-guided fuzzer beside the independent scheduler, ten minutes each, and conversions, one minute; not part of the gate
-# make mutants   makes the definitions wrong, one token at a time, and tells what notices; about twenty minutes; not part of the gate
+# make mutants   makes the definitions wrong, one token at a time, and tells what notices; it takes long; not part of the gate
 # make test   proves everything, tries every must-fail edit, runs the tests: the gate
 .PHONY: run convert convert-back lists archive host targets targets-test install bench bench-convert fuzz mutants picture test clean
 
