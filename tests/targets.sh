@@ -32,10 +32,15 @@ step "built again, each archive has the same bytes" again
 
 # --- a module that is not as expected is refused
 
-# refused SCRIPT: module.awk refuses the module as the sed script changes it, which it does change, and says why
-refused() {
+# change SCRIPT: the module as the sed script changes it, which it does change
+change() {
     sed "$1" $built/x86_64.ll >"$out/changed.ll"
     if cmp -s "$out/changed.ll" $built/x86_64.ll; then echo "nothing was changed"; return 1; fi
+}
+
+# refused SCRIPT: module.awk refuses the changed module, and says why
+refused() {
+    change "$1" || return 1
     if awk -f targets/module.awk "$out/changed.ll" >/dev/null 2>"$out/why"; then echo "it passed"; return 1; fi
     grep '^targets/module\.awk: ' "$out/why"
 }
@@ -47,7 +52,9 @@ damaged "no stack probes" 's/ "probe-stack"="inline-asm"//'
 damaged "another size of stack probes" 's/ "stack-probe-size"="3072"/ "stack-probe-size"="4096"/'
 damaged "no processor" 's/ "target-cpu"="x86-64"//'
 damaged "another attribute" 's/ "target-cpu"="x86-64"/& "frame-pointer"="all"/'
-damaged "another word on inlining" 's/{ noinline nounwind/{ alwaysinline nounwind/'
+damaged "another word on inlining" 's/^\(attributes #0 = {\) nounwind/\1 inlinehint nounwind/'
+damaged "a kind of function without stack probes" '/^attributes #0 /s/ "probe-stack"="inline-asm"//'
+damaged "a function of another kind" 's/^\(define internal .*\) #0 {$/\1 #2 {/'
 damaged "a function less" 's/^define noundef i32 @hadulmir_ask/define internal noundef i32 @"hadulmir_ask"/'
 damaged "a pointer as a number" 's/ = icmp .*/ = ptrtoint ptr %r0 to i64/'
 damaged "a floating-point number" 's/ = add i64 .*/ = fadd double %r0, %r0/'
@@ -56,13 +63,56 @@ damaged "steps wider than a byte" 's/getelementptr i8, /getelementptr i64, /'
 damaged "another intrinsic" 's/@llvm\.cttz\.i64/@llvm.ctlz.i64/'
 damaged "a function of elsewhere" 's/^declare i64 @llvm\.cttz\.i64/declare i64 @helper/'
 damaged "a call through a pointer" 's/call void @"[^"]*"/call void %r0/'
-damaged "a pair of another form" 's/{ i64, i64 }/{ i32, i64 }/g'
-damaged "a pair with a pointer" 's/{ i64, i64 }/{ ptr, i64 }/g'
+damaged "three values at once" 's/{ i64, i64 }/{ i64, i64, i64 }/g'
+damaged "a pair with a number of 128 bits" 's/{ i64, i64 }/{ i64, i128 }/g'
+damaged "a pair with a floating-point number" 's/{ i64, i64 }/{ double, i64 }/g'
+damaged "a packed pair" 's/{ i64, i64 }/<{ i64, i64 }>/g'
+damaged "a store of a pair" 's/  store i64 %/  store { i64, i64 } %/'
+damaged "a store of a pair with a pointer" 's/  store ptr %/  store { i8, ptr } %/'
+damaged "memory for a pair" 's/ = alloca i64,/ = alloca { i64, i64 },/'
+damaged "the load of a pair with a promise" 's/ = load { i64, i64 }, .*/&, !noundef !1/'
+damaged "a pair as a parameter" 's/^\(define internal .*\)(ptr noundef %a0/\1({ i64, i64 } noundef %a0/'
+damaged "an address as a number, in another function" 's/ = icmp .*/ = ptrtoaddr ptr %r0 to i64/'
+damaged "one address as a number" 's/ = ptrtoaddr ptr %a0 to i64/ = add i64 %a2, 0/'
+damaged "addresses added" '/ = ptrtoaddr /,/^}/s/ = sub i64 / = add i64 /'
+damaged "addresses subtracted the other way round" '/ = ptrtoaddr /,/^}/s/ = sub i64 \(%r[0-9]*\), \(%r[0-9]*\)/ = sub i64 \2, \1/'
+damaged "addresses compared in another way" '/ = ptrtoaddr /,/^}/s/ = icmp ult / = icmp ugt /'
+damaged "the distance of two addresses stored" '/ = ptrtoaddr /,/^}/s/ = icmp ult i64 \(%r[0-9]*\), .*/&\n  store i64 \1, ptr %a0, align 8/'
 damaged "pointers compared" 's/ = icmp eq ptr %a0, null/ = icmp ult ptr %a0, %a0/'
 damaged "a store into constant bytes" 's/  store ptr @static\.0, ptr %r[0-9]*,/  store ptr %a0, ptr @static.0,/'
 damaged "a volatile store" 's/  store i8/  store volatile i8/'
 damaged "a variable" 's/^source_filename = .*/@state = internal global i64 0/'
 damaged "assembly" 's/^source_filename = .*/module asm "nop"/'
+
+# taken SCRIPT: it takes the changed module
+taken() { change "$1" && awk -f targets/module.awk "$out/changed.ll" >/dev/null; }
+step "a module is taken: functions that are never inlined" taken 's/^\(attributes #0 = {\) nounwind/\1 noinline nounwind/'
+step "a module is taken: functions that are always inlined" taken 's/^\(attributes #0 = {\) nounwind/\1 alwaysinline nounwind/'
+
+# split FIRST SECOND ALIGNMENT BYTE ITS-ALIGNMENT: a load of such a pair becomes two, the second at this byte
+split() {
+    awk -v load="  %pair = load { $1, $2 }, ptr %where, align $3" '{ print } $0 == "start:" && !loads++ { print load }' $built/x86_64.ll >"$out/changed.ll"
+    awk -f targets/module.awk "$out/changed.ll" | grep '^  %pair' >"$out/split"
+    diff - "$out/split" <<END
+  %pair.first = load $1, ptr %where, align $3
+  %pair.place = getelementptr i8, ptr %where, i64 $4
+  %pair.second = load $2, ptr %pair.place, align $5
+  %pair.half = insertvalue { $1, $2 } undef, $1 %pair.first, 0
+  %pair = insertvalue { $1, $2 } %pair.half, $2 %pair.second, 1
+END
+}
+step "the load of a pair is split: i8 and ptr, at byte 8" split i8 ptr 8 8 8
+step "the load of a pair is split: ptr and i64, at byte 8" split ptr i64 8 8 8
+step "the load of a pair is split: i64 and i8, at byte 8" split i64 i8 8 8 8
+step "the load of a pair is split: i8 and i32, at byte 4" split i8 i32 4 4 4
+step "the load of a pair is split: i8 and i16 at any address, at byte 2" split i8 i16 1 2 1
+step "the load of a pair is split: i8 and i8 at a multiple of 8, at byte 1" split i8 i8 8 1 1
+
+# no_pair_loaded: no load of a pair is left, and there are as many second loads as the module has loads of pairs
+no_pair_loaded() {
+    ! grep ' load {' $built/portable.ll && [ "$(grep -c ' = load { ' $built/x86_64.ll)" -eq "$(grep -c '^  %[a-z0-9]*\.second = load ' $built/portable.ll)" ]
+}
+step "no load of a pair is left" no_pair_loaded
 
 # --- each archive, by what readelf says of it, which reads the files of every machine
 

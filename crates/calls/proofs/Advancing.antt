@@ -2,25 +2,27 @@
 use mathlib.Core.Path.{◌≡◌, refl, sym, ap, ◌∙◌, fun_ext, subst}
 use Prim.Native.Nat.{ℕ, suc, ◌+◌, ◌-◌, ◌≤◌, zero, ◌*◌, ◌/◌, ◌<◌}
 use mathlib.Core.Bool.{Bool, true, false, not, ◌&&◌, ◌||◌, or-true}
-use mathlib.Core.List.{List, [], map, ◌∷◌, ◌++◌, map-map, append_assoc, append-nil}
+use mathlib.Core.List.{List, [], map, ◌++◌, map-map, append_assoc, append-nil}
 use native.Mathlib.Omega.{arith, by_contra}
 use borrow.Author.Tests.{ltb-false, lt-ltb, le-ltb, ltb-true}
 use mathlib.Core.Logic.{◌⊎◌, inl, inr}
 use native.Mathlib.Nat.{lt_of_not-le}
 use lib.Bits.{bit_or}
 use lib.Dec.{ltb}
-use lib.ListN.{length, get_or, length-append}
+use lib.ListN.{length, take, get_or, length-append}
 use Rattle.rules.specs.declared.Entry.{Entry}
 use Rattle.rules.specs.declared.Program.{Program}
 use Rattle.rules.specs.Lists.{keep, In, All, Pairwise}
-use Rattle.rules.specs.Records.{State, cut, last_clock, has, join, id_of, no_entry, view, pad, most_rows}
+use Rattle.rules.specs.Records.{State, cut, last_clock, has, join, id_of, no_entry, pad, most_rows, view}
 use Rattle.rules.specs.Holding.{claim, taken, held_at, Holding, carry, holding_at, with_holding, remarked, end_of}
 use Rattle.rules.specs.Rows.{code_at, rows_from, rows_at, Row}
+use Rattle.rules.specs.declared.Schedule.{Schedule}
+use Rattle.rules.specs.Sound.{sound}
 use Rattle.rules.specs.Moments.{lasts, entries_from, second, advance, passed}
 use Rattle.rules.specs.Bytes.{bytes, rows_size}
 use Rattle.rules.proofs.ListLaws.{keep_in, keep_map, keep_keep, keep_cong, map_same, keep_all, in_keep, map_cong}
 use Rattle.rules.proofs.Claims.{claim_ended, code_ended, taken_keep, rows_eq, gives_none, claim_early, claim_cancelled, nothing_held}
-use Rattle.rules.proofs.SoundState.{Sound}
+use Rattle.rules.proofs.SoundState.{Sound, sound_pad, sound_view}
 use Rattle.rules.proofs.SoundKept.{sound_advance}
 use Rattle.rules.proofs.Jump.{marks_in, carried_twice, onward, advance_add, Idle, idle}
 use Rattle.rules.proofs.Tests.{both, each_true}
@@ -30,18 +32,18 @@ use Rattle.calls.specs.declared.held.Head.{Head}
 use Rattle.calls.specs.declared.agenda.Taken.{Taken}
 use Rattle.calls.specs.declared.clock.Due.{Due}
 use Rattle.calls.specs.declared.clock.Standing.{Standing}
-use Rattle.calls.specs.Slots.{slot_state, schedule_of, InUse, Ready}
-use Rattle.calls.specs.Sets.{event_at, mask_at, counting, places_to, Numbered, SetOf, Holders, HoldingsOnly, SecondCounted, set_width}
+use Rattle.calls.specs.Slots.{head_of, slot_state, schedule_of, Unused, Ready}
+use Rattle.calls.specs.Sets.{event_at, mask_at, counting, places_to, Numbered, SetOf, Holders, SameFrom, HoldingsOnly, SecondCounted, set_width}
 use Rattle.calls.specs.Agenda.{Agenda, TakenTo, second_width}
 use Rattle.calls.specs.Moment.{Distinct, OneHolderIn, Before, Marked, Steady, Ahead, Past}
 use Rattle.calls.specs.Written.{Written}
-use Rattle.calls.specs.Advanced.{Opened, Passes, Advances}
+use Rattle.calls.specs.Advanced.{Opened, Passes, Advanced}
 use Rattle.calls.specs.Finished.{Finished}
-use Rattle.calls.proofs.Slots.{at_in, in_slots, within, view_of, sound_of}
+use Rattle.calls.proofs.Slots.{pairwise_at, in_slots, within, view_of, sound_of, unused, says}
 use Rattle.calls.proofs.Puts.{no_row, rows_then}
 use Rattle.calls.proofs.Sets.{place_below}
 use Rattle.calls.proofs.Turns.{held_event, holdings_trans, counted_holdings, counted_mask, counted_holders}
-use Rattle.calls.proofs.Moments.{us_at, event_in_lem, in_event, us_are, counting_twice, quiet_counted}
+use Rattle.calls.proofs.Moments.{not-true, us_at, event_in_lem, in_event, us_are, counting_twice, quiet_counted}
 use Rattle.calls.proofs.Changes.{Reached, begin, later, reach_quiet, no_start, no_end, ending, starting, reach_next}
 
 -- Moments over a list from which nothing is dropped.
@@ -149,17 +151,9 @@ module _ (ps : List Program) (us : List Entry) (c n : ℕ) (v : Sound (state_in 
 
 -- The loop.
 
--- Pairs of a list, place by place.
-
-pub pairwise_at : {A : Type 0} (R : A → A → Type 0) (e : A) (xs : List A) → Pairwise R xs → (i j : ℕ) → i < j → j < length xs → R (get_or xs i e) (get_or xs j e)
-pairwise_at R e [] h i j l k = absurd (omega arith)
-pairwise_at R e (x ∷ xs) h i zero l k = absurd (omega arith)
-pairwise_at R e (x ∷ xs) h zero (suc j) l k = h.0 (get_or xs j e) (at_in e xs j (omega arith))
-pairwise_at R e (x ∷ xs) h (suc i) (suc j) l k = pairwise_at R e xs h.1 i j (omega arith) (omega arith)
-
 -- What sound slots say of places.
 
-module _ {d : Head} {w : List (List ℕ)} (r : Ready d w) where
+module _ {d : Head} {w : List Entry} (r : Ready d w) where
   -- of two places that are not the same one comes first
   apart_at : {P : ℕ → ℕ → Type 0} → ((i j : ℕ) → i < j → j < d.count → P i j → ⊥) → ((i j : ℕ) → P i j → P j i) → (i j : ℕ) → i < d.count → j < d.count → P i j → i ≡ j
   apart_at f g i j l m p = go (ltb i j) (ltb j i) refl refl
@@ -192,15 +186,14 @@ module _ {d : Head} {w : List (List ℕ)} (r : Ready d w) where
       record { short = v.short; early = λ h. v.early (omega arith); over = λ h. absurd (omega (arith, v.lasts)); stopped = v.stopped }
 
   -- nothing has ended
-  pub standing : view (schedule_of d w) ≡ state_in d.programs (slot_state d w).entries d.clock
+  pub standing : slot_state d w ≡ state_in d.programs (slot_state d w).entries d.clock
   standing =
-      view_of r
-      ∙ ap (λ hs. record { clock = d.clock; programs = d.programs; entries = hs })
+      ap (λ hs. record { clock = d.clock; programs = d.programs; entries = hs })
       (sym (keep_all (lasts d.clock) (slot_state d w).entries (λ o m. lt-ltb d.clock (end_of o) ((sound_of r).entries o m).lasts)))
 
 -- After the moments up to a clock.
 
-pub record Going (d : Head) (w : List (List ℕ)) (to : ℕ) (agenda old : List ℕ) (now : List (List ℕ)) (rows : List ℕ) (s : Standing) (ended clock k : ℕ) : Type 0 where
+pub record Going (d : Head) (w : List Entry) (to : ℕ) (agenda old : List ℕ) (now : List Entry) (rows : List ℕ) (s : Standing) (ended clock k : ℕ) : Type 0 where
   pub ready : Ready d w
   pub planned : Agenda d.clock to d.count w agenda
   pub last : to ≤ last_clock
@@ -209,6 +202,7 @@ pub record Going (d : Head) (w : List (List ℕ)) (to : ℕ) (agenda old : List 
   pub order : clock ≤ to
   pub reached : Reached agenda clock k
   pub holdings : HoldingsOnly w now
+  pub behind : SameFrom d.count w now
   pub holders : Holders d.count now s.holding
   pub counted : Marked d now s.counted
   pub before : (i : ℕ) → i < d.count → Before (clock + 1) (event_at now i)
@@ -217,11 +211,11 @@ pub record Going (d : Head) (w : List (List ℕ)) (to : ℕ) (agenda old : List 
   -- the rows so far
   pub done : List Row
   pub state : Sound (state_in d.programs (slot_state d now).entries clock)
-  pub split : passed (view (schedule_of d w)) to
+  pub split : passed (slot_state d w) to
       ≡ onward (record { state = state_in d.programs (slot_state d now).entries clock; rows = done }) (advance (to - clock) (state_in d.programs (slot_state d now).entries clock))
   pub written : Written old 0 rows s.rows done
 
-pub start : {d : Head} {w : List (List ℕ)} {to : ℕ} {agenda old : List ℕ} {holding : ℕ} → Ready d w → Agenda d.clock to d.count w agenda → d.clock ≤ to → to ≤ last_clock → length old ≡ rows_size
+pub start : {d : Head} {w : List Entry} {to : ℕ} {agenda old : List ℕ} {holding : ℕ} → Ready d w → Agenda d.clock to d.count w agenda → d.clock ≤ to → to ≤ last_clock → length old ≡ rows_size
     → Holders d.count w holding → Going d w to agenda old w old (record { holding = holding; counted = 0; rows = 0 }) 0 d.clock 0
 start {d} {w} {to} {agenda} {old} r g h l size holders = record {
   ready = r;
@@ -232,18 +226,19 @@ start {d} {w} {to} {agenda} {old} r g h l size holders = record {
   order = h;
   reached = begin g r.used.few l h (ends_later r);
   holdings = record { size = r.used.size; each = λ i. refl };
+  behind = λ j l. refl;
   holders = holders;
   counted = λ i l e. not_has 0 i refl e;
   before = at_first r;
   apart = one_holder r;
   over = λ i. (λ e. not_has 0 i refl e, λ q. absurd (omega (arith, q.1, ends_later r i q.0)));
   done = [];
-  state = subst Sound (sym (view_of r) ∙ standing r) (sound_of r);
+  state = subst Sound (standing r) (sound_of r);
   split = ap (λ v. advance (to - d.clock) v) (standing r);
   written = no_row old 0;
 }
 
-module _ {d : Head} {w : List (List ℕ)} {to : ℕ} {agenda old : List ℕ} {now : List (List ℕ)} {rows : List ℕ} {s : Standing} {ended clock k : ℕ} (g : Going d w to agenda old now rows s ended clock k) where
+module _ {d : Head} {w : List Entry} {to : ℕ} {agenda old : List ℕ} {now : List Entry} {rows : List ℕ} {s : Standing} {ended clock k : ℕ} (g : Going d w to agenda old now rows s ended clock k) where
   abbrev ps : List Program
   ps = d.programs
 
@@ -300,7 +295,7 @@ module _ {d : Head} {w : List (List ℕ)} {to : ℕ} {agenda old : List ℕ} {no
 
     -- A quiet second, which is counted for those that hold something.
 
-    module _ (quietly : clock + 1 < t) (passing : clock < to) {new : List (List ℕ)} (c : SecondCounted s.holding now new) where
+    module _ (quietly : clock + 1 < t) (passing : clock < to) {new : List Entry} (c : SecondCounted s.holding now new) where
       rests : All (Idle clock 1) (keep (lasts clock) hs)
       rests = let one : clock + 1 - clock ≡ 1 = omega arith in rw one at (still (clock + 1) quietly (omega arith) (omega arith))
 
@@ -340,6 +335,9 @@ module _ {d : Head} {w : List (List ℕ)} {to : ℕ} {agenda old : List ℕ} {no
         order = omega arith;
         reached = reach_quiet g.planned g.ready.used.few g.last g.reached g.from e quietly;
         holdings = holdings_trans g.holdings (counted_holdings c);
+        behind = λ j l.
+            let none : has s.holding j ≡ false = not-true (has s.holding j) (λ e. omega (arith, ((g.holders j).0 e).0)) in
+            c.each j ∙ rw none (g.behind j l);
         holders = counted_holders s.holding c g.holders;
         counted = λ i l h. let z : event_at new i ≡ counting (event_at now i) = c.each i ∙ (rw h) in rw z (counting_twice (event_at now i));
         before = λ i l.
@@ -386,7 +384,7 @@ module _ {d : Head} {w : List (List ℕ)} {to : ℕ} {agenda old : List ℕ} {no
       abbrev next : List Entry
       next = settled_at ps t hs
 
-      split_next : passed (view (schedule_of d w)) to ≡ onward (record { state = state_in ps next t; rows = g.done ++ rows_at ps t hs }) (advance (to - t) (state_in ps next t))
+      split_next : passed (slot_state d w) to ≡ onward (record { state = state_in ps next t; rows = g.done ++ rows_at ps t hs }) (advance (to - t) (state_in ps next t))
       split_next =
           let rest = advance (to - t) (state_in ps next t) in
           g.split
@@ -398,7 +396,7 @@ module _ {d : Head} {w : List (List ℕ)} {to : ℕ} {agenda old : List ℕ} {no
           let rest = advance (to - t) (state_in ps next t) in
           omega (
             arith,
-            few_rows (schedule_of d w) g.ready.good to,
+            rw (view_of g.ready) at (few_rows (schedule_of d w) g.ready.good to),
             ap (λ m. length m.rows) split_next,
             length-append (g.done ++ rows_at ps t hs) rest.rows,
             length-append g.done (rows_at ps t hs),
@@ -439,7 +437,7 @@ module _ {d : Head} {w : List (List ℕ)} {to : ℕ} {agenda old : List ℕ} {no
         room = room;
       }
 
-      module _ {new : List (List ℕ)} {after : List ℕ} {r : Standing} (x : Past d now new t s rows after r) where
+      module _ {new : List Entry} {after : List ℕ} {r : Standing} (x : Past d now new t s rows after r) where
         -- the slots have the entries of the next state
         entries_next : (slot_state d new).entries ≡ next
         entries_next =
@@ -498,6 +496,7 @@ module _ {d : Head} {w : List (List ℕ)} {to : ℕ} {agenda old : List ℕ} {no
           order = soon;
           reached = reach_next g.planned g.ready.used.few g.last g.reached g.from e soon u v;
           holdings = holdings_trans g.holdings x.holdings;
+          behind = λ j l. x.behind j l ∙ g.behind j l;
           holders = x.holders;
           counted = x.counted;
           before = before_next;
@@ -512,7 +511,7 @@ module _ {d : Head} {w : List (List ℕ)} {to : ℕ} {agenda old : List ℕ} {no
     -- No moment up to the reading any more.
 
     module _ (st : clock + 1 < t → clock < to → Steady d now) (h : to < t) where
-      there : passed (view (schedule_of d w)) to ≡ record { state = state_in ps hs to; rows = g.done }
+      there : passed (slot_state d w) to ≡ record { state = state_in ps hs to; rows = g.done }
       there =
           g.split
           ∙ ap (onward (record { state = state_in ps hs clock; rows = g.done })) (quiet_to ps hs clock (to - clock) g.state (omega (arith, g.order, g.last)) (still to h (omega arith) g.order) (λ z. steady_all (st (omega (arith, h)) (omega arith))) to (omega (arith, g.order)))
@@ -521,6 +520,7 @@ module _ {d : Head} {w : List (List ℕ)} {to : ℕ} {agenda old : List ℕ} {no
       pub stop : Passes d w to rows ended s.rows now
       stop = record {
         holdings = g.holdings;
+        behind = g.behind;
         over = λ i. (
           λ f. let z = (g.over i).0 f in (z.0, omega (arith, z.1, g.order)),
           λ y. (g.over i).1 (y.0, by_contra (end_of (event_at now i)) clock (λ z. omega (arith, y.1, same_end i, clear_end to h (omega arith) i y.0 (omega (arith, same_end i, z))))),
@@ -533,9 +533,9 @@ module _ {d : Head} {w : List (List ℕ)} {to : ℕ} {agenda old : List ℕ} {no
 
 -- The first second is counted if it is quiet.
 
-pub opened : {d : Head} {w : List (List ℕ)} {to : ℕ} {agenda old : List ℕ} (holding : ℕ) → Ready d w → Agenda d.clock to d.count w agenda → d.clock ≤ to → to ≤ last_clock → length old ≡ rows_size
+pub opened : {d : Head} {w : List Entry} {to : ℕ} {agenda old : List ℕ} (holding : ℕ) → Ready d w → Agenda d.clock to d.count w agenda → d.clock ≤ to → to ≤ last_clock → length old ≡ rows_size
     → Holders d.count w holding → (t : ℕ) → t ≡ get_or agenda 0 0 / second_width → {quiet : Bool} → quiet ≡ (ltb (d.clock + 1) t && ltb d.clock to)
-    → {new : List (List ℕ)} {s : Standing} → Opened quiet holding w new s
+    → {new : List Entry} {s : Standing} → Opened quiet holding w new s
     → (clock : ℕ) × Going d w to agenda old new old s 0 clock 0 × (clock + 1 < t → clock < to → Steady d new)
 opened {d} {w} {to} {agenda} {old} holding r g h l size holders t e {quiet} f {new} {s} o = go quiet refl
   where
@@ -560,35 +560,45 @@ opened {d} {w} {to} {agenda} {old} holding r g h l size holders t e {quiet} f {n
 
 -- The whole call.
 
-module _ {d : Head} {w : List (List ℕ)} {to : ℕ} (r : Ready d w) where
-  module _ {rows : List ℕ} {ended count : ℕ} {mid : List (List ℕ)} (p : Passes d w to rows ended count mid) where
-    pub in_use : InUse d.count mid
-    in_use = record { few = r.used.few; size = p.holdings.size }
+module _ (s : Schedule) (e : sound s ≡ true) {to : ℕ} {rows : List ℕ} {ended count : ℕ} {mid : List Entry} (p : Passes (head_of s) s.entries to rows ended count mid) where
+  -- behind those in use there are still none
+  pub unused_still : Unused s.count mid
+  unused_still =
+      let u = unused s e in
+      record {
+        used = record { few = u.used.few; size = p.holdings.size };
+        none = λ j l. p.behind j l ∙ u.none j l;
+      }
 
-    -- who stays lasts
-    lasting : map (event_at mid) (keep (λ i. not (has ended i)) (places_to d.count)) ≡ keep (lasts to) (slot_state d mid).entries
-    lasting =
-        ap (map (event_at mid)) (keep_cong (λ i. not (has ended i)) (λ i. lasts to (event_at mid i)) (places_to d.count) (λ i m. go i (place_below d.count i m) (has ended i) refl))
-        ∙ sym (keep_map (lasts to) (event_at mid) (places_to d.count)) ∙ ap (keep (lasts to)) (sym (us_are d mid (omega (arith, in_use.few, in_use.size))))
-      where
-        go : (i : ℕ) → i < d.count → (b : Bool) → has ended i ≡ b → not b ≡ lasts to (event_at mid i)
-        go i l true e = sym (le-ltb to (end_of (event_at mid i)) ((p.over i).0 e).1)
-        go i l false e = sym (lt-ltb to (end_of (event_at mid i)) (lt_of_not-le (λ m. both (has ended i) ((p.over i).1 (l, m)) e)))
+  fits : s.count ≤ length mid
+  fits = omega (arith, unused_still.used.few, unused_still.used.size)
 
-    pub advanced : {k : ℕ} {next : List (List ℕ)} → Finished d.count ended mid next k → Advances d w to rows (record { head = record { clock = to; count = k; programs = d.programs }; rows = count }) next
-    advanced f = record {
-      used = f.used;
-      advanced = record {
-        schedule = ap (λ es. pad (record { clock = to; programs = d.programs; entries = es })) (f.lasting ∙ lasting) ∙ ap pad (sym p.state);
-        rows = p.rows;
-        written = p.written;
-        size = p.size;
-      };
-    }
+  -- who stays lasts
+  lasting : map (event_at mid) (keep (λ i. not (has ended i)) (places_to s.count)) ≡ keep (lasts to) (take s.count mid)
+  lasting =
+      ap (map (event_at mid)) (keep_cong (λ i. not (has ended i)) (λ i. lasts to (event_at mid i)) (places_to s.count) (λ i m. go i (place_below s.count i m) (has ended i) refl))
+      ∙ sym (keep_map (lasts to) (event_at mid) (places_to s.count)) ∙ ap (keep (lasts to)) (sym (us_are (head_of s) mid fits))
+    where
+      go : (i : ℕ) → i < s.count → (b : Bool) → has ended i ≡ b → not b ≡ lasts to (event_at mid i)
+      go i l true e = sym (le-ltb to (end_of (event_at mid i)) ((p.over i).0 e).1)
+      go i l false e = sym (lt-ltb to (end_of (event_at mid i)) (lt_of_not-le (λ m. both (has ended i) ((p.over i).1 (l, m)) e)))
 
-    -- nothing has ended
-    pub none_ended : ended ≡ 0 → Finished d.count ended mid mid d.count
-    none_ended e = record {
-      used = in_use;
-      lasting = us_are d mid (omega (arith, in_use.few, in_use.size)) ∙ ap (map (event_at mid)) (sym (keep_all (λ i. not (has ended i)) (places_to d.count) (λ i m. rw (e, has_none))));
-    }
+  pub advanced : {k : ℕ} {next : List Entry} → Finished s.count ended mid next k → Advanced s to rows (record { clock = to; count = k; programs = s.programs; entries = next }) count
+  advanced {k} {next} f = record {
+    schedule = says (record { clock = to; count = k; programs = s.programs; entries = next }) f.unused
+        ∙ ap (λ es. pad (record { clock = to; programs = s.programs; entries = es })) (f.lasting ∙ lasting) ∙ ap pad (sym p.state);
+    rows = p.rows;
+    written = p.written;
+    size = p.size;
+  }
+
+  -- what it leaves is sound
+  pub still_sound : {next : Schedule} → s.clock ≤ to → to ≤ last_clock → Advanced s to rows next count → sound next ≡ true
+  still_sound l h v = ap sound v.schedule ∙ sound_pad (passed (view s) to).state (sound_advance (to - s.clock) (view s) (sound_view s e) (omega arith))
+
+  -- nothing has ended
+  pub none_ended : ended ≡ 0 → Finished s.count ended mid mid s.count
+  none_ended z = record {
+    unused = unused_still;
+    lasting = us_are (head_of s) mid fits ∙ ap (map (event_at mid)) (sym (keep_all (λ i. not (has ended i)) (places_to s.count) (λ i m. rw (z, has_none))));
+  }

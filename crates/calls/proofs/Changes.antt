@@ -1,106 +1,116 @@
--- The agenda: a number put in its place, from the back; the changes of events, event by event; changes taken one by one; and what an agenda says of the moments.
+-- The agenda: a number put in its place; the changes of events, event by event; changes taken one by one; and what an agenda says of the moments.
 use mathlib.Core.Path.{◌≡◌, refl, sym, ap, ◌∙◌, subst}
 use mathlib.Core.Logic.{◌↔◌, ◌⊎◌, inl, inr, ⊎_elim}
-use Prim.Native.Nat.{ℕ, ◌+◌, ◌-◌, ◌%◌, ◌^◌, ◌<◌, ◌≤◌, ◌*◌, ◌/◌}
+use Prim.Native.Nat.{ℕ, suc, ◌+◌, ◌-◌, ◌%◌, ◌^◌, ◌<◌, ◌≤◌, ◌*◌, ◌/◌}
 use native.Mathlib.Omega.{arith, by_contra}
 use mathlib.Core.Bool.{Bool, true, false, not, ◌&&◌, ◌||◌, or-true}
-use mathlib.Core.List.{List, []}
+use mathlib.Core.List.{List, ◌∷◌, ◌++◌}
 use lib.Bits.{bit_or}
 use lib.Dec.{leb, ltb}
-use lib.ListN.{length, get_or, set, replicate, length-set, length-replicate, get_or-replicate}
-use lib.Seq.{get_or-set_same, get_or-set_other}
+use lib.ListN.{length, get_or, take, drop, replicate, length-append, length-drop, length-replicate, get_or-append, get_or-replicate}
+use lib.Seq.{get_or-append_right, get_or-drop, get_or-take, get_or_at, length-take-le}
 use borrow.Author.Count.{below_more}
-use borrow.Author.Tests.{ltb-true, leb-true, lt-ltb, le-leb, not-true}
+use borrow.Author.Tests.{ltb-true, ltb-false, leb-true, lt-ltb, le-leb, not-true}
 use native.Mathlib.Nat.{lt_of_not-le}
+use Rattle.rules.specs.declared.Entry.{Entry}
 use Rattle.rules.specs.Records.{has, join, most_events, last_clock}
 use Rattle.rules.specs.Holding.{end_of}
 use Rattle.rules.proofs.Tests.{each_true}
 use Rattle.rules.proofs.Masks.{has_join, not_has}
 use Rattle.calls.specs.declared.agenda.Taken.{Taken}
-use Rattle.calls.specs.Slots.{entry_of}
-use Rattle.calls.specs.Sets.{set_width, SetOf}
+use Rattle.calls.specs.Sets.{event_at, set_width, SetOf}
 use Rattle.calls.specs.Agenda.{most_changes, agenda_size, end_at, start_at, nothing, Change, Planned, Agenda, Filled, Inserted, Stops, TakenTo, second_width}
+use Rattle.calls.specs.Found.{widened}
 use Rattle.calls.proofs.Sets.{has_self, has_only}
 use Rattle.calls.proofs.Contending.{same}
 
--- A number put in its place: each turn copies the one before up by one, so that what stands at j stands elsewhere too.
+-- A list with one more put in, place by place.
 
--- the numbers are the old ones, each at a place that is not j, and behind j none is less than x
-pub record Moved (m x : ℕ) (old new : List ℕ) (j : ℕ) : Type 0 where
-  pub within : (j ≤ m) × (m < most_changes)
-  pub filled : Filled (m + 1) new
-  pub above : (k : ℕ) → j < k → k < agenda_size → x ≤ get_or new k 0
-  pub kept : (y : ℕ) → Planned old y → (k : ℕ) × (k < agenda_size) × (k ≡ j → ⊥) × (get_or new k 0 ≡ y)
-  pub only : (k : ℕ) → k < agenda_size → Planned old (get_or new k 0)
+module _ {A : Type 0} (l : List A) (n at : ℕ) (x d : A) (h : at ≤ n) (r : n < length l) where
+  abbrev filling : List A
+  filling = take at l ++ (x ∷ drop at (take n l))
 
--- One number stored.
+  fills : length filling ≡ n + 1
+  fills = length-append (take at l) (x ∷ drop at (take n l)) ∙ omega (arith, length-take-le at l (omega arith), length-drop at (take n l), length-take-le n l (omega arith))
 
-module _ (a : List ℕ) (j v : ℕ) (size : length a ≡ agenda_size) (l : j < agenda_size) where
-  -- what stands at a place then
-  stands : (k : ℕ) → ((k ≡ j) × (get_or (set a j v) k 0 ≡ v)) ⊎ ((k ≡ j → ⊥) × (get_or (set a j v) k 0 ≡ get_or a k 0))
-  stands k = ⊎_elim (λ e. inl (e, rw e (get_or-set_same a j v 0 (omega arith)))) (λ d. inr (d, get_or-set_other a j k v 0 d)) (same k j)
+  widened_before : (k : ℕ) → k < at → get_or (widened l n at x) k d ≡ get_or l k d
+  widened_before k b =
+      get_or-append filling (drop (n + 1) l) d k (omega (arith, fills)) ∙ get_or-append (take at l) (x ∷ drop at (take n l)) d k (omega (arith, length-take-le at l (omega arith)))
+      ∙ get_or-take at l k d b
 
-  -- one that is not less than those before it, and not greater than those behind it
-  filled_with : {m : ℕ} → Filled m a → j < m → ((k : ℕ) → k < j → get_or a k 0 ≤ v) → ((k : ℕ) → j < k → k < agenda_size → v ≤ get_or a k 0) → Filled m (set a j v)
-  filled_with f front low high = record {
-    size = length-set a j v ∙ f.size;
-    ascends = λ p q h r.
-        ⊎_elim
-        (λ s. ⊎_elim (λ t. omega arith) (λ t. omega (arith, high q (omega arith) r)) (stands q))
-        (λ s. ⊎_elim (λ t. omega (arith, low p (omega arith))) (λ t. omega (arith, f.ascends p q h r)) (stands q))
-        (stands p);
-    marks = λ k h r. ⊎_elim (λ s. absurd (omega arith)) (λ s. s.1 ∙ f.marks k h r) (stands k);
+  widened_here : get_or (widened l n at x) at d ≡ x
+  widened_here = get_or-append filling (drop (n + 1) l) d at (omega (arith, fills)) ∙ get_or_at (take at l) x (drop at (take n l)) d at (length-take-le at l (omega arith))
+
+  widened_moved : (k : ℕ) → at ≤ k → k < n → get_or (widened l n at x) (k + 1) d ≡ get_or l k d
+  widened_moved k b c =
+      let front = length-take-le at l (omega arith) in
+      let behind : k + 1 - length (take at l) ≡ suc (k - at) = omega (arith, front) in
+      get_or-append filling (drop (n + 1) l) d (k + 1) (omega (arith, fills)) ∙ get_or-append_right (take at l) (x ∷ drop at (take n l)) (k + 1) d (omega (arith, front))
+      ∙ ap (λ i. get_or (x ∷ drop at (take n l)) i d) behind ∙ get_or-drop at (take n l) (k - at) d ∙ ap (λ i. get_or (take n l) i d) (omega arith) ∙ get_or-take n l k d c
+
+  widened_behind : (k : ℕ) → n < k → get_or (widened l n at x) k d ≡ get_or l k d
+  widened_behind k b =
+      get_or-append_right filling (drop (n + 1) l) k d (omega (arith, fills)) ∙ get_or-drop (n + 1) l (k - length filling) d ∙ ap (λ i. get_or l i d) (omega (arith, fills))
+
+  widened_long : length (widened l n at x) ≡ length l
+  widened_long = length-append filling (drop (n + 1) l) ∙ omega (arith, fills, length-drop (n + 1) l)
+
+-- A number put in its place.
+
+module _ {m x at : ℕ} {a : List ℕ} (f : Filled m a) (r : m < most_changes) (top : x ≤ nothing) (h : at ≤ m)
+    (low : (k : ℕ) → k < at → get_or a k 0 ≤ x) (high : (k : ℕ) → at ≤ k → k < m → x ≤ get_or a k 0) where
+  inside : m < length a
+  inside = omega (arith, f.size)
+
+  above : (k : ℕ) → at ≤ k → k < agenda_size → x ≤ get_or a k 0
+  above k p q = go (ltb k m) refl
+    where
+      go : (b : Bool) → ltb k m ≡ b → x ≤ get_or a k 0
+      go true e = high k p (ltb-true k m e)
+      go false e = omega (arith, f.marks k (ltb-false k m e) q)
+
+  -- at a place stands x, or what stood there or just before
+  stands : (k : ℕ) → ((k ≡ at) × (get_or (widened a m at x) k 0 ≡ x)) ⊎ ((j : ℕ) × (j ≤ k) × (k ≤ j + 1) × (get_or (widened a m at x) k 0 ≡ get_or a j 0))
+  stands k = ⊎_elim (λ e. inl (e, rw e (widened_here a m at x 0 h inside))) (λ d. inr (other d)) (same k at)
+    where
+      other : (k ≡ at → ⊥) → (j : ℕ) × (j ≤ k) × (k ≤ j + 1) × (get_or (widened a m at x) k 0 ≡ get_or a j 0)
+      other d = go (ltb k at) (ltb m k) refl refl
+        where
+          go : (b c : Bool) → ltb k at ≡ b → ltb m k ≡ c → (j : ℕ) × (j ≤ k) × (k ≤ j + 1) × (get_or (widened a m at x) k 0 ≡ get_or a j 0)
+          go true c e g = (k, omega arith, omega arith, widened_before a m at x 0 h inside k (ltb-true k at e))
+          go false true e g = (k, omega arith, omega arith, widened_behind a m at x 0 h inside k (ltb-true m k g))
+          go false false e g =
+              let up : k - 1 + 1 ≡ k = omega (arith, ltb-false k at e) in
+              (k - 1, omega arith, omega arith, ap (λ i. get_or (widened a m at x) i 0) (sym up) ∙ widened_moved a m at x 0 h inside (k - 1) (omega (arith, ltb-false k at e)) (omega (arith, ltb-false m k g, up)))
+
+  -- what stood at a place stands somewhere
+  stays : (y : ℕ) → Planned a y → Planned (widened a m at x) y
+  stays y (j, l, e) = go (ltb j at) (ltb j m) refl refl
+    where
+      go : (b c : Bool) → ltb j at ≡ b → ltb j m ≡ c → Planned (widened a m at x) y
+      go true c p q = (j, l, widened_before a m at x 0 h inside j (ltb-true j at p) ∙ e)
+      go false true p q = (j + 1, omega (arith, ltb-true j m q), widened_moved a m at x 0 h inside j (ltb-false j at p) (ltb-true j m q) ∙ e)
+      go false false p q =
+          (most_changes, omega arith, widened_behind a m at x 0 h inside most_changes (omega arith) ∙ f.marks most_changes (omega arith) (omega arith) ∙ sym (f.marks j (ltb-false j m q) l) ∙ e)
+
+  pub inserted : Inserted m x a (widened a m at x)
+  inserted = record {
+    filled = record {
+      size = widened_long a m at x 0 h inside ∙ f.size;
+      ascends = λ p q l r. ⊎_elim (λ e. rw e (omega arith)) (λ d. climbs p q (omega arith) r) (same p q);
+      marks = λ k p q. ⊎_elim (λ s. absurd (omega arith)) (λ s. s.3 ∙ f.marks s.0 (omega (arith, s.1, s.2)) (omega (arith, s.1))) (stands k);
+    };
+    put = (at, omega arith, widened_here a m at x 0 h inside);
+    kept = stays;
+    only = λ k q. ⊎_elim (λ s. inl s.1) (λ s. inr (s.0, omega (arith, s.1), sym s.3)) (stands k);
   }
-
--- Turns.
-
-pub moved_none : {m x : ℕ} {a : List ℕ} → m < most_changes → x ≤ nothing → Filled m a → Moved m x a a m
-moved_none {m} {x} {a} l h f = record {
-  within = (omega arith, l);
-  filled = record { size = f.size; ascends = f.ascends; marks = λ k p q. f.marks k (omega arith) q };
-  above = λ k p q. omega (arith, f.marks k (omega arith) q);
-  kept = λ y o. ⊎_elim
-      (λ e. (most_changes, omega arith, λ z. omega arith, f.marks most_changes (omega arith) (omega arith) ∙ sym (f.marks o.0 (omega arith) o.1) ∙ o.2))
-      (λ d. (o.0, o.1, d, o.2))
-      (same o.0 m);
-  only = λ k p. (k, p, refl);
-}
-
-module _ {m x : ℕ} {old new : List ℕ} {j : ℕ} (t : Moved m x old new j) where
-  size : length new ≡ agenda_size
-  size = t.filled.size
-
-  inside : j < agenda_size
-  inside = omega (arith, t.within)
-
-  pub moved_more : 0 < j → x < get_or new (j - 1) 0 → Moved m x old (set new j (get_or new (j - 1) 0)) (j - 1)
-  moved_more p h =
-      let v = get_or new (j - 1) 0 in
-      let f = t.filled in
-      record {
-        within = omega (arith, t.within);
-        filled = filled_with new j v size inside f (omega (arith, t.within))
-            (λ k q. f.ascends k (j - 1) (omega arith) (omega (arith, inside)))
-            (λ k q r. f.ascends (j - 1) k (omega arith) r);
-        above = λ k q r. ⊎_elim (λ s. omega arith) (λ s. omega (arith, t.above k (omega arith) r)) (stands new j v size inside k);
-        kept = λ y o.
-            let w = t.kept y o in
-            ⊎_elim
-            (λ e. (j, inside, λ z. omega arith, get_or-set_same new j v 0 (omega (arith, size, inside)) ∙ ap (λ i. get_or new i 0) (sym e) ∙ w.3))
-            (λ d. (w.0, w.1, d, get_or-set_other new j w.0 v 0 w.2 ∙ w.3))
-            (same w.0 (j - 1));
-        only = λ k q. ⊎_elim (λ s. rw s.1 (t.only (j - 1) (omega (arith, inside)))) (λ s. rw s.1 (t.only k q)) (stands new j v size inside k);
-      }
-
-  pub moved_all : (0 < j → get_or new (j - 1) 0 ≤ x) → Inserted m x old (set new j x)
-  moved_all h = record {
-    filled = filled_with new j x size inside t.filled (omega (arith, t.within))
-        (λ k q. omega (arith, t.filled.ascends k (j - 1) (omega arith) (omega (arith, inside)), h (omega arith)))
-        t.above;
-    put = (j, inside, get_or-set_same new j x 0 (omega (arith, size, inside)));
-    kept = λ y o. let w = t.kept y o in (w.0, w.1, get_or-set_other new j w.0 x 0 w.2 ∙ w.3);
-    only = λ k q. ⊎_elim (λ s. inl s.1) (λ s. inr (rw s.1 (t.only k q))) (stands new j x size inside k);
-  }
+    where
+      climbs : (p q : ℕ) → p < q → q < agenda_size → get_or (widened a m at x) p 0 ≤ get_or (widened a m at x) q 0
+      climbs p q l r =
+          ⊎_elim
+          (λ s. ⊎_elim (λ t. absurd (omega arith)) (λ t. omega (arith, s.1, t.3, above t.0 (omega (arith, s.0, t.2)) (omega (arith, t.1)))) (stands q))
+          (λ s. ⊎_elim (λ t. omega (arith, s.3, t.1, low s.0 (omega (arith, s.1, t.0)))) (λ t. omega (arith, s.3, t.3, f.ascends s.0 t.0 (omega (arith, s.1, t.2)) (omega (arith, t.1)))) (stands q))
+          (stands p)
 
 -- The changes of events.
 
@@ -130,14 +140,14 @@ module _ {C : ℕ → Type 0} {m : ℕ} {a : List ℕ} (p : Plans C m a) where
 -- One event more.
 
 -- the changes of the first i events
-abbrev pub Changes : ℕ → ℕ → ℕ → List (List ℕ) → ℕ → Type 0
-Changes clock to i w x = (k : ℕ) × (k < i) × Change clock to (entry_of (get_or w k [])) k x
+abbrev pub Changes : ℕ → ℕ → ℕ → List Entry → ℕ → Type 0
+Changes clock to i w x = (k : ℕ) × (k < i) × Change clock to (event_at w k) k x
 
 -- and the start of the next, if it is to come
-abbrev pub WithStart : ℕ → ℕ → ℕ → List (List ℕ) → Bool → ℕ → ℕ → Type 0
+abbrev pub WithStart : ℕ → ℕ → ℕ → List Entry → Bool → ℕ → ℕ → Type 0
 WithStart clock to i w coming begins x = Changes clock to i w x ⊎ ((coming ≡ true) × (x ≡ start_at begins i))
 
-pub no_changes : (clock to : ℕ) (w : List (List ℕ)) {a : List ℕ} → a ≡ replicate agenda_size nothing → Plans (Changes clock to 0 w) 0 a
+pub no_changes : (clock to : ℕ) (w : List Entry) {a : List ℕ} → a ≡ replicate agenda_size nothing → Plans (Changes clock to 0 w) 0 a
 no_changes clock to w {a} e =
     let marks : (j : ℕ) → j < agenda_size → get_or a j 0 ≡ nothing = λ j l. rw e (get_or-replicate agenda_size j nothing 0 l) in
     record {
@@ -150,8 +160,8 @@ no_changes clock to w {a} e =
       only = λ j l. inl (marks j l);
     }
 
-pub event_more : (clock to i : ℕ) (w : List (List ℕ)) {stopped coming : Bool} {begins ends : ℕ} → stopped ≡ (entry_of (get_or w i [])).cancelled → begins ≡ (entry_of (get_or w i [])).begins
-    → coming ≡ (not stopped && (ltb clock begins && leb begins to)) → ends ≡ end_of (entry_of (get_or w i []))
+pub event_more : (clock to i : ℕ) (w : List Entry) {stopped coming : Bool} {begins ends : ℕ} → stopped ≡ (event_at w i).cancelled → begins ≡ (event_at w i).begins
+    → coming ≡ (not stopped && (ltb clock begins && leb begins to)) → ends ≡ end_of (event_at w i)
     → (m : ℕ) (a : List ℕ) → Plans (λ x. WithStart clock to i w coming begins x ⊎ ((ends ≤ to) × (x ≡ end_at ends i))) m a → Plans (Changes clock to (i + 1) w) m a
 event_more clock to i w {stopped} {coming} {begins} {ends} o b f e m a p =
     same_plans p
@@ -161,14 +171,14 @@ event_more clock to i w {stopped} {coming} {begins} {ends} o b f e m a p =
     (λ s. let u = each_true (not stopped) _ (sym f ∙ s.0) in let t = each_true (ltb clock begins) (leb begins to) u.1 in
     (i, omega arith, inl (sym o ∙ not-true stopped u.0, omega (arith, ltb-true clock begins t.0), omega (arith, leb-true begins to t.1), rw b at s.1))))
     (λ s. (i, omega arith, inr (rw e at s.0, rw e at s.1))))
-    (λ x c. below_more (λ k. Change clock to (entry_of (get_or w k [])) k x → WithStart clock to i w coming begins x ⊎ ((ends ≤ to) × (x ≡ end_at ends i))) i
+    (λ x c. below_more (λ k. Change clock to (event_at w k) k x → WithStart clock to i w coming begins x ⊎ ((ends ≤ to) × (x ≡ end_at ends i))) i
     (λ k l d. inl (inl (k, l, d)))
     (⊎_elim
     (λ s. inl (inr (f ∙ (rw (o, s.0, b, lt-ltb clock _ s.1, le-leb _ to s.2)), rw b s.3)))
     (λ s. inr (rw e s)))
     c.0 c.1 c.2)
 
-pub agenda_of : {clock to n : ℕ} {w : List (List ℕ)} {m : ℕ} {a : List ℕ} → m ≤ most_changes → Plans (Changes clock to n w) m a → Agenda clock to n w a
+pub agenda_of : {clock to n : ℕ} {w : List Entry} {m : ℕ} {a : List ℕ} → m ≤ most_changes → Plans (Changes clock to n w) m a → Agenda clock to n w a
 agenda_of l p = record {
   size = p.filled.size;
   ascends = p.filled.ascends;
@@ -247,16 +257,16 @@ abbrev pub Reached : List ℕ → ℕ → ℕ → Type 0
 Reached a c k = Divided a ((c + 1) * second_width) k
 
 -- start and end of the event in slot i
-abbrev begin_of : List (List ℕ) → ℕ → ℕ
-begin_of w i = (entry_of (get_or w i [])).begins
+abbrev begin_of : List Entry → ℕ → ℕ
+begin_of w i = (event_at w i).begins
 
-abbrev stopped_of : List (List ℕ) → ℕ → Bool
-stopped_of w i = (entry_of (get_or w i [])).cancelled
+abbrev stopped_of : List Entry → ℕ → Bool
+stopped_of w i = (event_at w i).cancelled
 
-abbrev finish_of : List (List ℕ) → ℕ → ℕ
-finish_of w i = end_of (entry_of (get_or w i []))
+abbrev finish_of : List Entry → ℕ → ℕ
+finish_of w i = end_of (event_at w i)
 
-module _ {clock to n : ℕ} {w : List (List ℕ)} {a : List ℕ} (g : Agenda clock to n w a) (few : n ≤ most_events) (late : to ≤ last_clock) where
+module _ {clock to n : ℕ} {w : List Entry} {a : List ℕ} (g : Agenda clock to n w a) (few : n ≤ most_events) (late : to ≤ last_clock) where
   -- Where numbers stand.
 
   -- a greater bound, up to what stands at k
@@ -328,11 +338,11 @@ module _ {clock to n : ℕ} {w : List (List ℕ)} {a : List ℕ} (g : Agenda clo
 
       -- a number before the next second is a change of the event whose place it has
       of_event : (j i : ℕ) → j < agenda_size → get_or a j 0 < t * second_width + second_width → get_or a j 0 % set_width ≡ i
-          → (i < n) × Change clock to (entry_of (get_or w i [])) i (get_or a j 0)
+          → (i < n) × Change clock to (event_at w i) i (get_or a j 0)
       of_event j i l h m =
           ⊎_elim (λ z. absurd (omega arith))
           (λ o. let e : o.0 ≡ i = ⊎_elim (λ s. omega arith) (λ f. omega arith) o.2 in
-          subst (λ x. (x < n) × Change clock to (entry_of (get_or w x [])) x (get_or a j 0)) e (o.1, o.2))
+          subst (λ x. (x < n) × Change clock to (event_at w x) x (get_or a j 0)) e (o.1, o.2))
           (g.only j l)
 
       module _ {p : Taken} (u : TakenTo a k (t * second_width + set_width) p) where

@@ -8,24 +8,23 @@ use borrow.Author.Tests.{ltb-false, lt-ltb, le-ltb}
 use lib.Dec.{ltb}
 use lib.ListN.{length, take, drop}
 use lib.Seq.{take_at, length-take-le}
+use Rattle.rules.specs.declared.Refusal.{Refusal}
+use Rattle.rules.specs.declared.Reply.{Reply}
 use Rattle.rules.specs.declared.Schedule.{Schedule}
 use Rattle.rules.specs.Lists.{over}
 use Rattle.rules.specs.Records.{last_clock, view, most_rows}
 use Rattle.rules.specs.Moments.{passed}
 use Rattle.rules.specs.Sound.{sound}
 use Rattle.rules.specs.Refusals.{clock_checks}
-use Rattle.rules.specs.Calls.{Outcome, set_clock, nothing, count, counted, value_of, does, checks, call}
-use Rattle.rules.specs.declared.Answer.TheVariants.{Refused, Count}
+use Rattle.rules.specs.Calls.{Outcome, set_clock, nothing, count, counted, number_of, value_of, does, checks, call}
+use Rattle.rules.specs.declared.Reply.TheVariants.{Count}
+use Rattle.rules.specs.declared.Refusal.TheVariants.{ClockOutOfRange}
+use Rattle.std.specs.Prelude.{Result, Ok, Err}
 use Rattle.rules.specs.Bytes.{row_size, rows_size}
 use Rattle.rules.proofs.Tests.{either_false}
 use Rattle.rules.proofs.Bound.{few_rows}
 use Rattle.rules.proofs.CallLaws.{done}
-use Rattle.calls.specs.declared.Acted.{Acted}
-use Rattle.calls.specs.declared.held.Head.{Head}
-use Rattle.calls.specs.declared.advance.Passed.{Passed}
-use Rattle.calls.specs.Slots.{schedule_of, InUse, Ready}
-use Rattle.calls.specs.Answered.{outcome_in}
-use Rattle.calls.specs.Advanced.{Advanced, Advances, Reads}
+use Rattle.calls.specs.Advanced.{Advanced, Reads}
 use Rattle.calls.proofs.Acting.{given}
 
 module _ (s : Schedule) (e : sound s ≡ true) (t : ℕ) where
@@ -59,14 +58,13 @@ module _ (s : Schedule) (e : sound s ≡ true) (t : ℕ) where
         let f = take (row_size * n) rows in
         sym (take_at f (drop (length f) b) (row_size * n) (length-take-le (row_size * n) rows (omega (arith, few, w.size))))
 
--- On slots.
+-- In place.
 
 -- the call gives the same with every buffer that all rows fit, and these rows at its front
-reads : {s : Schedule} {t : ℕ} {rows : List ℕ} {r : Acted} {next : List (List ℕ)} → InUse r.head.count next → length rows ≡ rows_size → (out : List ℕ → List ℕ)
-    → ((b : List ℕ) → length b ≡ rows_size → outcome_in r next (out b) ≡ call s (set_clock t b))
-    → ((b : List ℕ) → let n = row_size * counted (value_of r.answer) in take n rows ≡ take n (out b)) → Reads s t r next rows
-reads {rows = rows} used long out is front = record {
-  used = used;
+reads : {s : Schedule} {t : ℕ} {rows : List ℕ} {a : Result Reply Refusal} {next : Schedule} → length rows ≡ rows_size → (out : List ℕ → List ℕ)
+    → ((b : List ℕ) → length b ≡ rows_size → record { number = number_of a; value = value_of a; state = next; bytes = out b; records = [] } ≡ call s (set_clock t b))
+    → ((b : List ℕ) → let n = row_size * counted (value_of a) in take n rows ≡ take n (out b)) → Reads s t a next rows
+reads {rows = rows} long out is front = record {
   long = long;
   number = λ b m. ap (λ (o : Outcome). o.number) (is b m);
   value = λ b m. ap (λ (o : Outcome). o.value) (is b m);
@@ -74,16 +72,10 @@ reads {rows = rows} used long out is front = record {
   written = λ b m. subst (λ (o : Outcome). let n = row_size * counted o.value in take n rows ≡ take n o.bytes) (is b m) (front b);
 }
 
-module _ {d : Head} {w : List (List ℕ)} (r : Ready d w) (t : ℕ) (rows : List ℕ) where
-  pub reads_none : (ltb t d.clock || ltb last_clock t) ≡ true → length rows ≡ rows_size → Reads (schedule_of d w) t (record { answer = Refused 12; head = d }) w rows
-  reads_none q l = reads r.used l (λ b. b) (λ b m. out_of_range (schedule_of d w) r.good t q b) (λ b. refl)
+module _ (s : Schedule) (e : sound s ≡ true) (t : ℕ) (rows : List ℕ) where
+  pub reads_none : (ltb t s.clock || ltb last_clock t) ≡ true → length rows ≡ rows_size → Reads s t (Err ClockOutOfRange) s rows
+  reads_none q l = reads l (λ b. b) (λ b m. out_of_range s e t q b) (λ b. refl)
 
-  pub reads_rows : (ltb t d.clock || ltb last_clock t) ≡ false → (p : Passed) (next : List (List ℕ)) → Advances d w t rows p next
-      → Reads (schedule_of d w) t (record { answer = Count p.rows; head = p.head }) next rows
-  reads_rows q p next a =
-      let v = a.advanced in
-      let s = schedule_of d w in
-      let end = schedule_of p.head next in
-      reads a.used v.size (over (take (row_size * p.rows) rows))
-      (λ b m. fits s r.good t q rows end p.rows v b (omega (arith, few s r.good t q rows end p.rows v)))
-      (front s r.good t q rows end p.rows v)
+  pub reads_rows : (ltb t s.clock || ltb last_clock t) ≡ false → (next : Schedule) (n : ℕ) → Advanced s t rows next n → Reads s t (Ok (Count n)) next rows
+  reads_rows q next n v =
+      reads v.size (over (take (row_size * n) rows)) (λ b m. fits s e t q rows next n v b (omega (arith, few s e t q rows next n v))) (front s e t q rows next n v)

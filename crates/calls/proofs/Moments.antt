@@ -29,7 +29,7 @@ use Rattle.calls.specs.declared.clock.Due.{Due}
 use Rattle.calls.specs.declared.clock.Standing.{Standing}
 use Rattle.calls.specs.Moment.{Before, CanStart, Started, Released, Marked, Ahead, Past}
 use Rattle.calls.specs.Slots.{slot_state}
-use Rattle.calls.specs.Sets.{event_at, mask_at, masked, counting, rank_in, places_to, Holders, MasksOnly, HoldingsOnly, SecondCounted, kind_code, set_rows}
+use Rattle.calls.specs.Sets.{event_at, mask_at, masked, counting, rank_in, places_to, Holders, MasksOnly, HoldingsOnly, SecondCounted, kind_code, set_rows, SameFrom}
 use Rattle.calls.specs.Settled.{Settled}
 use Rattle.calls.specs.Written.{Written}
 use Rattle.calls.proofs.Slots.{at_in, in_at, in_slots, slot_at}
@@ -176,11 +176,11 @@ claims t h b (holds d o) = sym (hold_claim t h b d o)
 -- A moment on slots.
 
 -- what does not hold is false
-not-true : (b : Bool) → (b ≡ true → ⊥) → b ≡ false
+pub not-true : (b : Bool) → (b ≡ true → ⊥) → b ≡ false
 not-true true f = absurd (f refl)
 not-true false f = refl
 
-module _ (d : Head) (w : List (List ℕ)) (fits : d.count ≤ length w) where
+module _ (d : Head) (w : List Entry) (fits : d.count ≤ length w) where
   abbrev n : ℕ
   n = d.count
 
@@ -259,7 +259,7 @@ module _ (d : Head) (w : List (List ℕ)) (fits : d.count ≤ length w) where
       rows_of t k set (λ c. eqb c k) now few inside gives (λ i l h. rw e (sym (eqb-true _ k (sym (gives i l) ∙ h))))
 
 -- The rows of a set do not look at masks.
-pub rows_same : {old new : List (List ℕ)} → MasksOnly old new → (t k set : ℕ) → set_rows t k new set ≡ set_rows t k old set
+pub rows_same : {old new : List Entry} → MasksOnly old new → (t k set : ℕ) → set_rows t k new set ≡ set_rows t k old set
 rows_same {old} {new} m t k set =
     map_cong (λ i. record { time = t; id = id_of (event_at new i).event; code = kind_code k (event_at new i) }) (λ i. record { time = t; id = id_of (event_at old i).event; code = kind_code k (event_at old i) })
     (keep (has set) (places_to most_events)) (λ i q. ap (λ h. record { time = t; id = id_of h.event; code = kind_code k h }) (m.each i))
@@ -310,7 +310,7 @@ counting_twice h = λ i. record {
     twice false false = refl
 
 -- the holders are those whose mask is not 0
-pub on_mask : {n : ℕ} (holding : ℕ) (w : List (List ℕ)) → Holders n w holding → (i : ℕ) → i < n → has holding i ≡ not (eqb (mask_at w i) 0)
+pub on_mask : {n : ℕ} (holding : ℕ) (w : List Entry) → Holders n w holding → (i : ℕ) → i < n → has holding i ≡ not (eqb (mask_at w i) 0)
 on_mask {n} holding w h i l = go (eqb (mask_at w i) 0) refl
   where
     go : (x : Bool) → eqb (mask_at w i) 0 ≡ x → has holding i ≡ not x
@@ -318,14 +318,14 @@ on_mask {n} holding w h i l = go (eqb (mask_at w i) 0) refl
     go false e = (h i).1 (l, eqb-false (mask_at w i) 0 e)
 
 -- a quiet second, counted for those that hold something
-pub quiet_counted : {n : ℕ} (holding : ℕ) (old : List (List ℕ)) {new : List (List ℕ)} → Holders n old holding → SecondCounted holding old new → (i : ℕ) → i < n → event_at new i ≡ remarked (event_at old i)
+pub quiet_counted : {n : ℕ} (holding : ℕ) (old : List Entry) {new : List Entry} → Holders n old holding → SecondCounted holding old new → (i : ℕ) → i < n → event_at new i ≡ remarked (event_at old i)
 quiet_counted {n} holding old {new} h c i l =
     c.each i ∙ ap (λ b. cond b (counting (event_at old i)) (event_at old i)) (sym (and-true (has holding i)))
     ∙ carried_by (event_at old i) (mask_at old i) (has holding i) false (on_mask holding old h i l) (λ e. both true refl (sym e))
 
 -- A moment, step by step.
 
-module _ {d : Head} {w : List (List ℕ)} {t : ℕ} {due : Due} {s : Standing} {rows : List ℕ} (a : Ahead d w t due s rows) where
+module _ {d : Head} {w : List Entry} {t : ℕ} {due : Due} {s : Standing} {rows : List ℕ} (a : Ahead d w t due s rows) where
   abbrev ps : List Program
   ps = d.programs
 
@@ -379,7 +379,7 @@ module _ {d : Head} {w : List (List ℕ)} {t : ℕ} {due : Due} {s : Standing} {
 
   -- What has ended is let go.
 
-  module _ {mid : List (List ℕ)} {before : ℕ} (r : Released ended s.holding w mid before) where
+  module _ {mid : List Entry} {before : ℕ} (r : Released ended s.holding w mid before) where
     record Marks (i : ℕ) (start hold : Bool) : Type 0 where
       holding : has before i ≡ hold
       starting : has due.starting i ≡ start
@@ -446,7 +446,7 @@ module _ {d : Head} {w : List (List ℕ)} {t : ℕ} {due : Due} {s : Standing} {
 
     -- What begins has contended.
 
-    module _ {new : List (List ℕ)} {held : ℕ} (q : Started d due.starting mid new held) where
+    module _ {new : List Entry} {held : ℕ} (q : Started d due.starting mid new held) where
       pub all_masks : MasksOnly w new
       all_masks = masks_trans r.masks q.masks
 
@@ -522,7 +522,7 @@ module _ {d : Head} {w : List (List ℕ)} {t : ℕ} {due : Due} {s : Standing} {
 
       -- The second is counted.
 
-      module _ {last : List (List ℕ)} (c : SecondCounted fresh new last) where
+      module _ {last : List Entry} (c : SecondCounted fresh new last) where
         all_holdings : HoldingsOnly w last
         all_holdings = holdings_trans (masks_holdings all_masks) (counted_holdings c)
 
@@ -562,10 +562,18 @@ module _ {d : Head} {w : List (List ℕ)} {t : ℕ} {due : Due} {s : Standing} {
                 was false true p h u v = both true refl (rw (h, p) at u)
                 was false false p h u v = both false (rw (h, p) at v) refl
 
+        -- no set has a place behind those in use
+        all_behind : SameFrom d.count w last
+        all_behind j l =
+            let none : has fresh j ≡ false = not-true (has fresh j) (λ e. omega (arith, fresh_in j e)) in
+            let over : has ended j ≡ false = not-true (has ended j) (λ e. omega (arith, ended_in j e)) in
+            c.each j ∙ rw none (q.behind j l) ∙ r.masks.each j ∙ ap (masked (event_at w j)) (r.released j ∙ rw over)
+
         pub past : {r1 r2 r3 : List ℕ} {k1 k2 k3 : ℕ} → Written rows s.rows r1 k1 (set_rows t 3 w ended) → Written r1 k1 r2 k2 (set_rows t 7 new losing) → Written r2 k2 r3 k3 (set_rows t 2 new beginning)
             → Past d w last t s rows r3 (record { holding = held; counted = join s.counted held; rows = k3 })
         past {r3 = r3} {k3 = k3} x y z = record {
           holdings = all_holdings;
+          behind = all_behind;
           holders = counted_holders held c q.holders;
           settled = all_settled;
           counted = all_counted;

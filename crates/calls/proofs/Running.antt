@@ -22,8 +22,6 @@ use Rattle.rules.proofs.SoundKept.{sound_call}
 use Rattle.frame.specs.Ends.{longer, ended_of, up_to}
 use Rattle.calls.specs.Lines.{Run, runs, ran_into}
 use Rattle.text.specs.Texts.{most_text}
-use Rattle.calls.specs.declared.lines.Telling.{Telling}
-use Rattle.calls.specs.Slots.{schedule_of}
 use Rattle.calls.specs.Says.{Says}
 use Rattle.calls.proofs.Longest.{tell_length}
 use Rattle.frame.proofs.Ends.{ended_first, ended_none, up_to_within}
@@ -53,17 +51,16 @@ after_none r = let e : r.read ≡ 0 + r.read = omega arith in λ i. record { sta
 -- before the line at `from`: `text` is what stands in the buffer of the lines before it, and the rest of the run is still to come
 pub record Running (first : Schedule) (lines old : List ℕ) (s : Schedule) (from at : ℕ) (new : List ℕ) : Type 0 where
   pub text : List ℕ
-  pub is_sound : sound s ≡ true
   pub within : from ≤ length lines
   pub size : at ≡ length text
   pub fits : at ≤ length old
   pub stands : new ≡ over text old
   pub rest : runs (length old) first (ended_of lines) ≡ after from text (runs (length old - at) s (ended_of (drop from lines)))
 
-pub running_none : (s : Schedule) → sound s ≡ true → (lines old : List ℕ) → Running s lines old s 0 0 old
-running_none s e lines old =
+pub running_none : (s : Schedule) (lines old : List ℕ) → Running s lines old s 0 0 old
+running_none s lines old =
     let z : length old ≡ length old - 0 = omega arith in
-    record { text = []; is_sound = e; within = omega arith; size = refl; fits = omega arith; stands = refl; rest = ap (λ n. runs n s (ended_of lines)) z ∙ after_none _ }
+    record { text = []; within = omega arith; size = refl; fits = omega arith; stands = refl; rest = ap (λ n. runs n s (ended_of lines)) z ∙ after_none _ }
 
 module _ {first : Schedule} {lines old : List ℕ} {s : Schedule} {from at : ℕ} {new : List ℕ} (r : Running first lines old s from at new) where
   -- the buffer keeps its length
@@ -104,24 +101,23 @@ module _ {first : Schedule} {lines old : List ℕ} {s : Schedule} {from at : ℕ
       unfolding runs
       running_stop g = running_all (rw (next, lt-leb most_text (length old - at) g))
 
-      pub running_more : {told : Telling} {w : List (List ℕ)} {rows newer : List ℕ} {line : Line} → most_text ≤ length old - at → line ≡ line_of l → Says s line new at told w rows newer
-          → Running first lines old (schedule_of told.head w) (end + 1) told.behind newer
+      pub running_more : {behind : ℕ} {later : Schedule} {rows newer : List ℕ} {line : Line} → most_text ≤ length old - at → line ≡ line_of l → Says s line new at behind later rows newer
+          → Running first lines old later (end + 1) behind newer
       unfolding runs tell_in
-      running_more {told} {w} {rows} {newer} {line} g is said =
-          let says : Says s (line_of l) new at told w rows newer = rw is at said in
+      running_more {behind} {later} {rows} {newer} {line} g is said =
+          let says : Says s (line_of l) new at behind later rows newer = rw is at said in
           let t = (tell s l).text in
           let short = tell_length s l in
           let put = says.text.end in
           let none : 0 + length r.text ≡ length r.text = omega arith in
-          let left : length old - at - length t ≡ length old - told.behind = omega arith in
+          let left : length old - at - length t ≡ length old - behind = omega arith in
           let size : length l ≡ end - from = length-take-le (end - from) (drop from lines) (omega (arith, length-drop from lines)) in
           let read : from + suc (length l) ≡ end + 1 = omega arith in
-          let more = runs (length old - told.behind) (schedule_of told.head w) (ended_of (drop (end + 1) lines)) in
+          let more = runs (length old - behind) later (ended_of (drop (end + 1) lines)) in
           let step : runs (length old - at) s (l ∷ ended_of (drop (end + 1) lines)) ≡ after (suc (length l)) t more =
           rw (le-leb most_text (length old - at) g, left, says.state) in
           record {
             text = r.text ++ t;
-            is_sound = rw says.state (sound_told s r.is_sound l);
             within = omega arith;
             size = simp length-append (omega (arith, r.size));
             fits = omega (arith, r.fits);

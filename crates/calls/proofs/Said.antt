@@ -11,6 +11,9 @@ use lib.Dec.{leb, eqb}
 use lib.ListN.{length, take, get_or}
 use lib.Seq.{get_or-take}
 use Rattle.rules.specs.declared.Entry.{Entry}
+use Rattle.std.specs.Prelude.{Result}
+use Rattle.rules.specs.declared.Refusal.{Refusal}
+use Rattle.rules.specs.declared.Reply.{Reply}
 use Rattle.rules.specs.declared.Schedule.{Schedule}
 use Rattle.rules.specs.declared.Frame.{Frame}
 use Rattle.rules.specs.declared.Frame.TheVariants as frame
@@ -25,13 +28,10 @@ use Rattle.rules.specs.Printed.{refused_text, three_text, rows_text, frame_text,
 use Rattle.rules.proofs.Tests.{first_not}
 use Rattle.rules.proofs.SoundState.{sound_view}
 use Rattle.rules.proofs.Bound.{few_rows}
-use Rattle.calls.specs.declared.Acted.{Acted}
-use Rattle.calls.specs.Answered.{Acts}
+use Rattle.calls.specs.Answered.{told}
 use Rattle.calls.specs.Advanced.{Reads}
 use Rattle.calls.specs.Says.{ActsOn, Says}
-use Rattle.calls.specs.declared.lines.Telling.{Telling}
-use Rattle.calls.specs.Slots.{schedule_of, InUse}
-use Rattle.text.specs.Texts.{Stands, most_text, if_room}
+use Rattle.text.specs.Texts.{Stands, most_text, number_told, if_room}
 
 -- Rows are read off the front of a buffer alone.
 
@@ -69,29 +69,27 @@ value_text clock (frame.Ask c) is o p q = rw q
 value_text clock (frame.OptOut i) is o p q = rw q
 value_text clock (frame.OptIn i) is o p q = rw q
 
-module _ {s : Schedule} {r : Acted} {w : List (List ℕ)} {rows : List ℕ} where
-  pub on_bare : {f : Frame} {c : Bare} → frame_call f room ≡ bare c → length rows ≡ rows_size → Acts r w [] (call s (frame_call f room)) → ActsOn s f r w rows
-  on_bare {f} is long a =
-      let v = ap (λ (o : Outcome). o.value) a.outcome in
+module _ {s : Schedule} {a : Result Reply Refusal} {next : Schedule} {rows : List ℕ} where
+  pub on_bare : {f : Frame} {c : Bare} → frame_call f room ≡ bare c → length rows ≡ rows_size → told a next ≡ call s (frame_call f room) → ActsOn s f a next rows
+  on_bare {f} is long e =
+      let v = ap (λ (o : Outcome). o.value) e in
       record {
-        used = a.used;
         long = long;
-        number = ap (λ (o : Outcome). o.number) a.outcome;
+        number = ap (λ (o : Outcome). o.number) e;
         value = v;
-        state = ap (λ (o : Outcome). o.state) a.outcome;
+        state = ap (λ (o : Outcome). o.state) e;
         text = λ clock o p q. value_text clock f is o (call s (frame_call f room)) (p ∙ v);
       }
 
-  pub on_clock : (t : ℕ) → Reads s t r w rows → ActsOn s (frame.Clock t) r w rows
-  on_clock t a = record {
-    used = a.used;
-    long = a.long;
-    number = a.number room refl;
-    value = a.value room refl;
-    state = a.state room refl;
+  pub on_clock : (t : ℕ) → Reads s t a next rows → ActsOn s (frame.Clock t) a next rows
+  on_clock t r = record {
+    long = r.long;
+    number = r.number room refl;
+    value = r.value room refl;
+    state = r.state room refl;
     text = λ clock o p q.
-        let v : counted o.value ≡ counted (call s (set_clock t room)).value = ap counted (p ∙ a.value room refl) in
-        ap₂ (λ n b. rows_text n 0 b) v q ∙ rows_front rows (call s (set_clock t room)).bytes (counted (call s (set_clock t room)).value) (a.written room refl);
+        let v : counted o.value ≡ counted (call s (set_clock t room)).value = ap counted (p ∙ r.value room refl) in
+        ap₂ (λ n b. rows_text n 0 b) v q ∙ rows_front rows (call s (set_clock t room)).bytes (counted (call s (set_clock t room)).value) (r.written room refl);
   }
 
 -- the count of a call that was accepted, on a schedule that is sound then, or of none
@@ -138,27 +136,24 @@ call_counted s (list r) = from_done s (list r) (λ e. omega (arith, (sound_view 
 
 -- A line.
 
-module _ (s : Schedule) {old new : List ℕ} {at : ℕ} {w : List (List ℕ)} {rows : List ℕ} (fits : at + most_text ≤ length old) where
-  pub says_bad : (r : Telling) → InUse r.head.count w → length rows ≡ rows_size → schedule_of r.head w ≡ s
-      → Stands old at (if_room 29 at old (refused_text 1)) new r.behind → Says s Bad old at r w rows new
-  says_bad r used long same p = record {
-    used = used;
+module _ (s : Schedule) {old new : List ℕ} {at : ℕ} {rows : List ℕ} (fits : at + most_text ≤ length old) where
+  pub says_bad : (behind : ℕ) → length rows ≡ rows_size → Stands old at (if_room 29 at old (refused_text 1)) new behind → Says s Bad old at behind s rows new
+  says_bad behind long p = record {
     long = long;
-    state = same;
+    state = refl;
     text = rw (le-leb (at + 29) (length old) (omega arith)) at p;
   }
 
-  pub says_good : (f : Frame) (a : Acted) → ActsOn s f a w rows → (behind : ℕ)
-      → ((o : Outcome) → o.number ≡ number_of a.answer → o.value ≡ value_of a.answer → o.bytes ≡ rows
+  pub says_good : (f : Frame) {a : Result Reply Refusal} {next : Schedule} → ActsOn s f a next rows → (n : Result Reply ℕ) → number_told n ≡ number_of a → value_of n ≡ value_of a → (behind : ℕ)
+      → ((o : Outcome) → o.number ≡ number_told n → o.value ≡ value_of n → o.bytes ≡ rows
       → Stands old at (cond (eqb (length rows) rows_size && leb (counted o.value) most_rows) (if_room most_text at old (cond (eqb o.number 0) (frame_text s.clock f o) (refused_text o.number))) []) new behind)
-      → Says s (Good f) old at (record { head = a.head; behind = behind }) w rows new
+      → Says s (Good f) old at behind next rows new
   unfolding tell_frame
-  says_good f a t behind told =
-      let o : Outcome = record { number = number_of a.answer; value = value_of a.answer; state = s; bytes = rows; records = [] } in
-      let few : counted (value_of a.answer) ≤ most_rows = rw t.value (call_counted s (frame_call f room)) in
+  says_good f {a} t n p q behind said =
+      let o : Outcome = record { number = number_of a; value = value_of a; state = s; bytes = rows; records = [] } in
+      let few : counted (value_of a) ≤ most_rows = rw t.value (call_counted s (frame_call f room)) in
       record {
-        used = t.used;
         long = t.long;
         state = t.state;
-        text = rw (eq-eqb (length rows) rows_size t.long, le-leb (counted (value_of a.answer)) most_rows few, le-leb (at + most_text) (length old) fits, t.text s.clock o refl refl, t.number) at (told o refl refl refl);
+        text = rw (eq-eqb (length rows) rows_size t.long, le-leb (counted (value_of a)) most_rows few, le-leb (at + most_text) (length old) fits, t.text s.clock o refl refl, t.number) at (said o (sym p) (sym q) refl);
       }

@@ -5,7 +5,7 @@ use native.Mathlib.Nat.{one-mul, pow-suc, div-eq_of_lt, lt_of_not-le, eq-or-lt_o
 use native.Mathlib.Omega.{arith}
 use mathlib.Core.Bool.{Bool, true, false, and-true, and-false, cond, not, ◌&&◌, ◌||◌, or-true, or-false}
 use lib.Pow.{pow-add, pow-lt, pow_mono, pow_pos, shl-shr, shl_exact}
-use lib.Bits.{bit_and, bit_xor, and_le_r, xor_add_and, bit_or}
+use lib.Bits.{bit_and, bit_xor, and_le_r, xor_add_and, bit_or, and_self}
 use lib.Count.{count_trailing_zeros, under}
 use lib.Dec.{ltb, eqb}
 use borrow.Author.Tests.{ltb-true, ltb-false, ne_eqb, eqb-true, eqb-false, eq-eqb}
@@ -13,14 +13,14 @@ use mathlib.Core.Logic.{◌↔◌, ◌⊎◌, inl, inr, ⊎_elim}
 use mathlib.Core.List.{List, [], ◌∷◌, ◌++◌, map, append-nil}
 use lib.ListN.{length, get_or, length-append, length-map, get_or-append}
 use lib.Seq.{ext_get_or, get_or_at}
+use Rattle.rules.specs.declared.Entry.{Entry}
+use Rattle.std.proofs.lemmas.Nat.{and-not, and_comm, and_assoc}
 use Rattle.rules.specs.Records.{has, cut, join}
 use Rattle.rules.specs.Lists.{keep, In, All}
 use Rattle.rules.proofs.Tests.{both, each_true}
 use Rattle.rules.proofs.Masks.{has_and, has_cut, has_half, odd, has_join, has_none}
 use Rattle.rules.proofs.ListLaws.{in_append, keep_no}
 use Rattle.rules.proofs.Nobody.{has_ext}
-use Rattle.calls.specs.declared.bits.Next.{Next}
-use Rattle.calls.specs.Slots.{entry_of}
 use Rattle.calls.specs.Sets.{places_to, mask_at, SetOf, Lowest, Holders, Masked, Kept}
 use Rattle.calls.proofs.Slots.{at_map}
 use Rattle.calls.proofs.Contending.{same}
@@ -105,6 +105,13 @@ module _ (m c : ℕ) (e : has m c ≡ true) where
   pub flip_less : bit_xor m (2 ^ c) < m
   flip_less = omega (arith, xor_add_and m (2 ^ c), shared, pow_pos c)
 
+-- a set without another, as the machine has it at w bits
+pub and_not : (w a b : ℕ) → a < 2 ^ w → b < 2 ^ w → bit_and a (2 ^ w - 1 - b) ≡ cut a b
+unfolding cut
+and_not w a b l m =
+    let shared : bit_and a (bit_and a b) ≡ bit_and a b = sym (and_assoc b a a) ∙ ap (λ x. bit_and x b) (and_self a) in
+    omega (arith, and_comm a (2 ^ w - 1 - b), and-not w b a m l, and_comm a b, xor_add_and a (bit_and a b), shared)
+
 -- Lists and places.
 
 pub keep_append : {A : Type 0} (p : A → Bool) (xs ys : List A) → keep p (xs ++ ys) ≡ keep p xs ++ keep p ys
@@ -183,7 +190,7 @@ lowest_first (suc width) m i l = go (m % 2) refl i (λ j. lowest_first width (m 
     go (suc d) e i ih l = absurd (omega arith)
 
 -- the lowest place of a set
-pub lowest : (set : ℕ) → set < 2 ^ 64 → (set ≡ 0 → ⊥) → Lowest set (record { place = count_trailing_zeros 64 set; rest = bit_xor set (1 * 2 ^ count_trailing_zeros 64 set % 2 ^ 64) })
+pub lowest : (set : ℕ) → set < 2 ^ 64 → (set ≡ 0 → ⊥) → Lowest set (count_trailing_zeros 64 set) (bit_xor set (1 * 2 ^ count_trailing_zeros 64 set % 2 ^ 64))
 lowest set l some =
     let place = count_trailing_zeros 64 set in
     let here = has_lowest 64 set (omega arith) l in
@@ -196,17 +203,17 @@ lowest set l some =
       less = rw alone (flip_less set place here);
     }
 
-module _ {set : ℕ} {r : Next} (n : Lowest set r) where
+module _ {set : ℕ} {place later : ℕ} (n : Lowest set place later) where
   -- what is left was there
-  pub still : (k : ℕ) → has r.rest k ≡ true → has set k ≡ true
-  still k e = ⊎_elim (λ q. both (has r.rest k) e (rw q n.gone)) (λ d. sym (n.others k d) ∙ e) (same k r.place)
+  pub still : (k : ℕ) → has later k ≡ true → has set k ≡ true
+  still k e = ⊎_elim (λ q. both (has later k) e (rw q n.gone)) (λ d. sym (n.others k d) ∙ e) (same k place)
 
   -- what is not left is the lowest, or was not there
-  pub or_lowest : (k : ℕ) → has r.rest k ≡ false → (k ≡ r.place) ⊎ (has set k ≡ false)
-  or_lowest k e = ⊎_elim (λ q. inl q) (λ q. inr (sym (n.others k q) ∙ e)) (same k r.place)
+  pub or_lowest : (k : ℕ) → has later k ≡ false → (k ≡ place) ⊎ (has set k ≡ false)
+  or_lowest k e = ⊎_elim (λ q. inl q) (λ q. inr (sym (n.others k q) ∙ e)) (same k place)
 
-  pub in_order : (m : ℕ) → r.place < m → keep (has set) (places_to m) ≡ r.place ∷ keep (has r.rest) (places_to m)
-  in_order m l = first_place (has set) (has r.rest) r.place n.here n.first n.gone n.others m l
+  pub in_order : (m : ℕ) → place < m → keep (has set) (places_to m) ≡ place ∷ keep (has later) (places_to m)
+  in_order m l = first_place (has set) (has later) place n.here n.first n.gone n.others m l
 
 -- Controls cut from a mask one by one: those of `rest` are left to cut.
 
@@ -225,14 +232,14 @@ none_cut mask other = record {
     go true false = refl
     go false b = refl
 
-pub one_cut : {mask other left rest : ℕ} → Cutting mask other left rest → {r : Next} → Lowest rest r → Cutting mask other (cut left (2 ^ r.place)) r.rest
-one_cut {mask} {other} {left} c {r} n = record {
+pub one_cut : {mask other left rest : ℕ} → Cutting mask other left rest → {place later : ℕ} → Lowest rest place later → Cutting mask other (cut left (2 ^ place)) later
+one_cut {mask} {other} {left} c {place} {later} n = record {
   shared = λ k e. c.shared k (still n k e);
-  so_far = λ k. ⊎_elim (λ q. rw q here) (λ d. cut_other left r.place k d ∙ c.so_far k ∙ (rw (n.others k d))) (same k r.place);
+  so_far = λ k. ⊎_elim (λ q. rw q here) (λ d. cut_other left place k d ∙ c.so_far k ∙ (rw (n.others k d))) (same k place);
 }
   where
-    here : has (cut left (2 ^ r.place)) r.place ≡ (has mask r.place && (not (has other r.place) || has r.rest r.place))
-    here = cut_same left r.place ∙ sym (rw ((c.shared r.place n.here).1, n.gone) (and-false (has mask r.place)))
+    here : has (cut left (2 ^ place)) place ≡ (has mask place && (not (has other place) || has later place))
+    here = cut_same left place ∙ sym (rw ((c.shared place n.here).1, n.gone) (and-false (has mask place)))
 
 pub all_cut : (mask other : ℕ) {left rest : ℕ} → Cutting mask other left rest → rest ≡ 0 → left ≡ cut mask other
 all_cut mask other {left} c e =
@@ -271,19 +278,18 @@ module _ (holding i mask : ℕ) where
       go true e = let q = eqb-true j i e in rw q (cut_same holding i)
       go false e = cut_other holding i j (eqb-false j i e)
 
-  pub kept_out : mask ≡ 0 → Kept i mask holding (bit_xor holding (bit_and holding (2 ^ i)))
-  unfolding cut
+  pub kept_out : mask ≡ 0 → Kept i mask holding (cut holding (2 ^ i))
   kept_out e = record { each = λ j. rw (eq-eqb mask 0 e) (cut_there j) }
 
-  pub kept_in : (mask ≡ 0 → ⊥) → Kept i mask holding (bit_or (bit_xor holding (bit_and holding (2 ^ i))) (2 ^ i))
-  unfolding cut join
+  pub kept_in : (mask ≡ 0 → ⊥) → Kept i mask holding (bit_or (cut holding (2 ^ i)) (2 ^ i))
+  unfolding join
   kept_in d = record { each = λ j. rw (ne_eqb mask 0 d) (has_join (cut holding (2 ^ i)) (2 ^ i) j ∙ ap (λ b. b || has (2 ^ i) j) (cut_there j) ∙ go j (eqb j i) refl) }
     where
       go : (j : ℕ) (b : Bool) → eqb j i ≡ b → (cond b false (has holding j) || has (2 ^ i) j) ≡ cond b true (has holding j)
       go j true e = let q = eqb-true j i e in rw q (has_self i)
       go j false e = rw (not_only i j (eqb-false j i e), or-false)
 
-  pub holders_kept : {n : ℕ} {old new : List (List ℕ)} {after : ℕ} → Holders n old holding → i < n → Masked i mask old new → Kept i mask holding after → Holders n new after
+  pub holders_kept : {n : ℕ} {old new : List Entry} {after : ℕ} → Holders n old holding → i < n → Masked i mask old new → Kept i mask holding after → Holders n new after
   holders_kept {n} {old} {new} {after} h l m c j = ⊎_elim (λ e. rw e here) (λ d. there d) (same j i)
     where
       is : mask_at new i ≡ mask
@@ -298,5 +304,5 @@ module _ (holding i mask : ℕ) where
       there : (j ≡ i → ⊥) → (has after j ≡ true) ↔ ((j < n) × (mask_at new j ≡ 0 → ⊥))
       there d =
           let e : has after j ≡ has holding j = c.each j ∙ (rw (ne_eqb j i d)) in
-          let f : mask_at new j ≡ mask_at old j = ap (λ x. (entry_of x).held) (m.others j d) in
+          let f : mask_at new j ≡ mask_at old j = ap (λ x. x.held) (m.others j d) in
           (λ p. let q = (h j).0 (sym e ∙ p) in (q.0, λ z. q.1 (sym f ∙ z)), λ q. e ∙ (h j).1 (q.0, λ z. q.1 (f ∙ z)))

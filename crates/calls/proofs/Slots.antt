@@ -1,24 +1,26 @@
--- What stands at a place of a list; what stands in the slots, and the schedule that they are; and slots in use as entries by value.
-use mathlib.Core.Path.{◌≡◌, refl, sym, ap, ap₂, ◌∙◌, subst, fun_ext}
+-- What stands at a place of a list; what stands in the slots; and when a schedule is what it says.
+use mathlib.Core.Path.{◌≡◌, refl, sym, ap, ◌∙◌, subst}
 use mathlib.Core.Logic.{inl, inr}
-use Prim.Native.Nat.{ℕ, zero, suc, ◌<◌, ◌%◌, ◌≤◌, ◌+◌, ◌-◌}
-use mathlib.Core.List.{List, [], ◌∷◌, map, ◌++◌, map-append}
+use Prim.Native.Nat.{ℕ, zero, suc, ◌<◌, ◌≤◌, ◌-◌}
+use mathlib.Core.List.{List, [], ◌∷◌, map, ◌++◌}
 use native.Mathlib.Omega.{arith}
-use lib.Dec.{eqb}
-use borrow.Author.Tests.{eqb-true, eqb-false, eq-eqb, ne_eqb}
-use lib.ListN.{length, get_or, take, set, length-map, get_or-append, replicate}
-use lib.Seq.{get_or-take, length-take-le, get_or-set_same, get_or-set_other, take-suc, take-suc-set, append_snoc, set_at}
-use mathlib.Core.Bool.{Bool, true, false, cond, not, ◌||◌, or-true, or-false}
-use native.Mathlib.Numerals.{add-one}
-use Rattle.rules.specs.Lists.{In}
-use Rattle.rules.specs.Records.{no_entry, view, most_events, pad}
+use lib.ListN.{length, get_or, take, get_or-append, replicate, length-append, length-replicate, get_or-replicate, get_or-eq_default}
+use lib.Seq.{get_or-take, length-take-le, get_or-append_right, ext_get_or}
+use lib.Dec.{ltb}
+use borrow.Author.Tests.{ltb-true, ltb-false}
+use borrow.Table.Steps.{cases}
+use mathlib.Core.Bool.{true}
+use Rattle.rules.specs.declared.Id.{Id}
 use Rattle.rules.specs.declared.Entry.{Entry}
 use Rattle.rules.specs.declared.Schedule.{Schedule}
 use Rattle.rules.specs.Sound.{sound}
-use Rattle.rules.proofs.SoundState.{Sound, view_pad, sound_view, pad_view}
+use Rattle.rules.specs.Lists.{In, Pairwise}
+use Rattle.rules.specs.Records.{no_entry, view, pad, most_events}
+use Rattle.rules.proofs.IdLaws.{zero_halves}
+use Rattle.rules.proofs.SoundState.{Sound, view_pad, sound_view, rules, pad_view}
 use Rattle.calls.specs.declared.held.Head.{Head}
-use Rattle.calls.specs.Sets.{masked, counting, chosen}
-use Rattle.calls.specs.Slots.{held_place, out_place, was_in_place, was_out_place, slot_size, values32, entry_from, entry_of, slot_state, schedule_of, Ready, InUse, TakenApart}
+use Rattle.calls.specs.Slots.{head_of, slot_state, schedule_of, Ready, InUse, Unused}
+use Rattle.calls.specs.Sets.{blank, event_at}
 
 -- what stands at a place is in the list
 pub at_in : {A : Type 0} (d : A) (xs : List A) (k : ℕ) → k < length xs → In (get_or xs k d) xs
@@ -38,21 +40,49 @@ at_map f d e [] k l = absurd (omega arith)
 at_map f d e (x ∷ xs) zero l = refl
 at_map f d e (x ∷ xs) (suc k) l = at_map f d e xs k (omega arith)
 
+-- pairs of a list, place by place
+pub pairwise_at : {A : Type 0} (R : A → A → Type 0) (e : A) (xs : List A) → Pairwise R xs → (i j : ℕ) → i < j → j < length xs → R (get_or xs i e) (get_or xs j e)
+pairwise_at R e [] h i j l k = absurd (omega arith)
+pairwise_at R e (x ∷ xs) h i zero l k = absurd (omega arith)
+pairwise_at R e (x ∷ xs) h zero (suc j) l k = h.0 (get_or xs j e) (at_in e xs j (omega arith))
+pairwise_at R e (x ∷ xs) h (suc i) (suc j) l k = pairwise_at R e xs h.1 i j (omega arith) (omega arith)
+
 -- Slots.
 
--- a mark is 1 only if it is set
-pub marked : (b : Bool) (m : ℕ) → m ≡ cond b 1 0 → eqb m 1 ≡ b
-marked true m e = rw e
-marked false m e = rw e
+-- a slot that is not in use, but for its id
+abbrev with_id : Id → Entry
+with_id i =
+    let e = blank.event in
+    record {
+      event = record {
+        id = i;
+        program = e.program;
+        controls = e.controls;
+        created = e.created;
+        start = e.start;
+        duration = e.duration;
+        randomize_start = e.randomize_start;
+        randomize_duration = e.randomize_duration;
+        start_draw = e.start_draw;
+        duration_draw = e.duration_draw;
+      };
+      begins = blank.begins;
+      held = blank.held;
+      cancelled = blank.cancelled;
+      choice = blank.choice;
+    }
 
-module _ (w : List (List ℕ)) (n : ℕ) (fits : n ≤ length w) where
-  pub in_slots : length (map entry_of (take n w)) ≡ n
-  in_slots = length-map (take n w) entry_of ∙ length-take-le n w fits
+pub unused_lem : blank ≡ no_entry
+unused_lem = ap with_id zero_halves
 
-  pub slot_at : (k : ℕ) → k < n → get_or (map entry_of (take n w)) k no_entry ≡ entry_of (get_or w k [])
-  slot_at k l = at_map entry_of [] no_entry (take n w) k (omega (arith, length-take-le n w fits)) ∙ ap entry_of (get_or-take n w k [] l)
+module _ (w : List Entry) (n : ℕ) (fits : n ≤ length w) where
+  pub in_slots : length (take n w) ≡ n
+  in_slots = length-take-le n w fits
 
-module _ {d : Head} {w : List (List ℕ)} (r : Ready d w) where
+  pub slot_at : (k : ℕ) → k < n → get_or (take n w) k no_entry ≡ event_at w k
+  slot_at k l = ap (get_or (take n w) k) (sym unused_lem) ∙ get_or-take n w k blank l
+
+module _ {d : Head} {w : List Entry} (r : Ready d w) where
   pub within : d.count ≤ length w
   within = omega (arith, r.used.few, r.used.size)
 
@@ -66,86 +96,55 @@ module _ {d : Head} {w : List (List ℕ)} (r : Ready d w) where
   pub sound_of : Sound (slot_state d w)
   sound_of = subst Sound view_of (sound_view (schedule_of d w) r.good)
 
-  -- the entry at a place is the event in its slot
-  pub entry_at : (k : ℕ) → k < d.count → get_or (schedule_of d w).entries k no_entry ≡ entry_of (get_or w k [])
-  entry_at k l = get_or-append (slot_state d w).entries _ no_entry k (omega (arith, count_of)) ∙ slot_at w d.count within k l
+-- A schedule in place.
 
-module _ (slot : List ℕ) (l : length slot ≡ slot_size) where
-  -- a slot with another number at one place
-  with_number : (p m : ℕ) → p < slot_size → entry_of (set slot p m) ≡ entry_from (λ j. cond (eqb j p) m (get_or slot j 0))
-  unfolding entry_of
-  with_number p m h = ap entry_from (fun_ext (λ j. go j (eqb j p) refl))
-    where
-      go : (j : ℕ) (b : Bool) → eqb j p ≡ b → get_or (set slot p m) j 0 ≡ cond b m (get_or slot j 0)
-      go j true e = ap (λ k. get_or (set slot p m) k 0) (eqb-true j p e) ∙ get_or-set_same slot p m 0 (omega arith)
-      go j false e = get_or-set_other slot p j m 0 (eqb-false j p e)
+module _ (s : Schedule) (e : sound s ≡ true) where
+  pub in_use : InUse s.count s.entries
+  in_use = let r = rules s e in record { few = r.count; size = r.full }
 
-  -- another mask
-  pub mask_in : (m : ℕ) → m % values32 ≡ m → entry_of (set slot held_place m) ≡ masked (entry_of slot) m
-  unfolding entry_of
-  mask_in m e = with_number held_place m (omega arith) ∙ ap (masked (entry_of slot)) e
+  pub fits : s.count ≤ length s.entries
+  fits = omega (arith, in_use.few, in_use.size)
 
-  -- another choice
-  pub choice_in : (b : Bool) (m : ℕ) → m ≡ cond b 1 0 → entry_of (set slot out_place m) ≡ chosen (entry_of slot) b
-  unfolding entry_of
-  choice_in b m e = with_number out_place m (omega arith) ∙ ap (chosen (entry_of slot)) (marked b m e)
+  -- head and slots are the schedule
+  pub ready : Ready (head_of s) s.entries
+  ready = record { used = in_use; good = ap sound (pad_view s e) ∙ e }
 
-  -- a held second counted, while the user is out and while in
+-- what is not in use stands nowhere
+none_behind : (m k : ℕ) → event_at (replicate m no_entry) k ≡ blank
+none_behind m k =
+    ap (λ x. get_or (replicate m x) k blank) (sym unused_lem)
+    ∙ cases (ltb k m)
+    (λ l. get_or-replicate m k blank blank (ltb-true k m l))
+    (λ l. get_or-eq_default (replicate m blank) blank (omega (arith, length-replicate m blank, ltb-false k m l)))
 
-  abbrev marks : Bool → Bool → Entry
-  marks n u = record {
-    event = (entry_of slot).event;
-    begins = (entry_of slot).begins;
-    held = (entry_of slot).held;
-    cancelled = (entry_of slot).cancelled;
-    choice = record { out = (entry_of slot).choice.out; was_in = n; was_out = u };
-  }
+-- behind those in use a sound schedule has none
+pub unused : (s : Schedule) → sound s ≡ true → Unused s.count s.entries
+unused s e =
+    let u = in_use s e in
+    let hs = take s.count s.entries in
+    let many : length hs ≡ s.count = in_slots s.entries s.count (omega (arith, u.few, u.size)) in
+    record {
+      used = u;
+      none = λ j l. ap (λ z. event_at z.entries j) (sym (pad_view s e)) ∙ get_or-append_right hs _ j blank (omega (arith, many)) ∙ none_behind (most_events - length hs) (j - length hs);
+    }
 
-  pub second_out : get_or slot out_place 0 ≡ 1 → entry_of (set slot was_out_place 1) ≡ counting (entry_of slot)
-  unfolding entry_of
-  second_out e =
-      let o = eq-eqb (get_or slot out_place 0) 1 e in
-      let n = eqb (get_or slot was_in_place 0) 1 in
-      let u = eqb (get_or slot was_out_place 0) 1 in
-      with_number was_out_place 1 (omega arith)
-      ∙ ap₂ marks (sym (ap (λ o. n || not o) o ∙ or-false n)) (sym (ap (λ o. u || o) o ∙ or-true u))
+-- and a schedule that has none there is what it says
+pub says : (s : Schedule) → Unused s.count s.entries → s ≡ pad (view s)
+says s u = λ i. record { clock = s.clock; count = sym many i; programs = s.programs; entries = rest i }
+  where
+    hs : List Entry
+    hs = take s.count s.entries
 
-  pub second_in : (get_or slot out_place 0 ≡ 1 → ⊥) → entry_of (set slot was_in_place 1) ≡ counting (entry_of slot)
-  unfolding entry_of
-  second_in d =
-      let o = ne_eqb (get_or slot out_place 0) 1 d in
-      let n = eqb (get_or slot was_in_place 0) 1 in
-      let u = eqb (get_or slot was_out_place 0) 1 in
-      with_number was_in_place 1 (omega arith)
-      ∙ ap₂ marks (sym (ap (λ o. n || not o) o ∙ or-true n)) (sym (ap (λ o. u || o) o ∙ or-false u))
+    many : length hs ≡ s.count
+    many = in_slots s.entries s.count (omega (arith, u.used.few, u.used.size))
 
--- Entries by value.
+    behind : List Entry
+    behind = replicate (most_events - length hs) no_entry
 
--- the first i slots as entries, and nothing in the places behind them
-abbrev pub laid : List (List ℕ) → ℕ → List Entry
-laid w i = map entry_of (take i w) ++ replicate (most_events - i) no_entry
+    long : length s.entries ≡ length (hs ++ behind)
+    long = sym (length-append hs behind ∙ omega (arith, length-replicate (most_events - length hs) no_entry, many, u.used.few, u.used.size))
 
--- one slot more
-pub laid_more : (w : List (List ℕ)) (i : ℕ) → length w ≡ most_events → i < most_events → set (laid w i) i (entry_of (get_or w i [])) ≡ laid w (i + 1)
-laid_more w i l h =
-    let next : most_events - i ≡ suc (most_events - suc i) = omega arith in
-    let new = entry_of (get_or w i []) in
-    rw (next, add-one)
-    (set_at (map entry_of (take i w)) no_entry (replicate (most_events - suc i) no_entry) new i (in_slots w i (omega arith))
-    ∙ sym (append_snoc (map entry_of (take i w)) new (replicate (most_events - suc i) no_entry))
-    ∙ ap (λ z. z ++ replicate (most_events - suc i) no_entry) (sym (map-append entry_of (take i w) (get_or w i [] ∷ [])) ∙ ap (map entry_of) (sym (take-suc w i [] (omega arith)))))
-
--- all slots in use
-pub laid_all : (d : Head) (w : List (List ℕ)) → InUse d.count w
-    → record { clock = d.clock; count = d.count; programs = d.programs; entries = laid w d.count } ≡ schedule_of d w
-laid_all d w u =
-    ap (λ n. record { clock = d.clock; count = n; programs = d.programs; entries = map entry_of (take d.count w) ++ replicate (most_events - n) no_entry }) (sym (in_slots w d.count (omega arith)))
-
--- one event of a schedule more in its slot
-pub slot_more : (hs : List Entry) (w : List (List ℕ)) (i : ℕ) (x : List ℕ) (d : Entry) → i < length w → i < length hs → entry_of x ≡ get_or hs i d
-    → map entry_of (take i w) ≡ take i hs → map entry_of (take (i + 1) (set w i x)) ≡ take (i + 1) hs
-slot_more hs w i x d l h e q = rw (add-one, take-suc-set w i x l, map-append, take-suc hs i d h, q, e)
-
--- slots that have the events of a sound schedule are that schedule
-pub apart_of : (s : Schedule) → sound s ≡ true → (w : List (List ℕ)) → length w ≡ most_events → map entry_of (take s.count w) ≡ (view s).entries → TakenApart s w
-apart_of s e w l q = record { size = l; same = ap (λ hs. pad (record { clock = s.clock; programs = s.programs; entries = hs })) q ∙ pad_view s e }
+    rest : s.entries ≡ hs ++ behind
+    rest = ext_get_or blank s.entries (hs ++ behind) long (λ j l. cases (ltb j s.count)
+        (λ q. let h = ltb-true j s.count q in sym (get_or-append hs behind blank j (omega (arith, many)) ∙ get_or-take s.count s.entries j blank h))
+        (λ q. let h = ltb-false j s.count q in u.none j h ∙ sym (get_or-append_right hs behind j blank (omega (arith, many)) ∙ none_behind (most_events - length hs) (j - length hs))))

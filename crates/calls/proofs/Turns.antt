@@ -10,6 +10,7 @@ use borrow.Author.Tests.{eqb-true, eqb-false, eq-eqb, ne_eqb}
 use native.Mathlib.Omega.{arith}
 use lib.ListN.{length, length-append, length-set, set}
 use lib.Seq.{get_or-set_same, get_or-set_other}
+use Rattle.rules.specs.declared.Entry.{Entry}
 use Rattle.rules.specs.declared.Program.{Program}
 use Rattle.rules.specs.Records.{has, cut, id_of, most_events, most_rows}
 use Rattle.rules.specs.Holding.{Rank, better, rank_of, with_holding}
@@ -18,9 +19,7 @@ use Rattle.rules.proofs.Tests.{both, each_true}
 use Rattle.rules.proofs.Masks.{has_and, has_cut, has_none, not_has, cut_none, cut_apart, no_bits}
 use Rattle.rules.proofs.ListLaws.{keep_no}
 use Rattle.calls.specs.declared.held.Head.{Head}
-use Rattle.calls.specs.declared.bits.Next.{Next}
-use Rattle.calls.specs.Slots.{entry_of}
-use Rattle.calls.specs.Sets.{event_at, mask_at, rank_in, Lowest, Holders, masked, counting, Masked, Kept, MasksOnly, HoldingsOnly, holding_of, SecondCounted, places_to, kind_code, set_rows}
+use Rattle.calls.specs.Sets.{blank, event_at, mask_at, rank_in, Lowest, Holders, masked, counting, Masked, Kept, MasksOnly, SameFrom, HoldingsOnly, holding_of, SecondCounted, places_to, kind_code, set_rows}
 use Rattle.calls.specs.Settled.{Comes, Contended, Settled, Contends}
 use Rattle.calls.specs.Written.{Written}
 use Rattle.calls.specs.Moment.{CanStart, Started, Released}
@@ -32,14 +31,14 @@ use Rattle.calls.proofs.Puts.{no_row, rows_then}
 
 -- Masks changed, one after the other.
 
-module _ {old now : List (List ℕ)} (m : MasksOnly old now) where
+module _ {old now : List Entry} (m : MasksOnly old now) where
   pub same_event_lem : (j : ℕ) → (event_at now j).event ≡ (event_at old j).event
   same_event_lem j = ap (λ h. h.event) (m.each j)
 
   pub same_rank : (ps : List Program) (j : ℕ) → rank_in ps now j ≡ rank_in ps old j
   same_rank ps j = ap (rank_of ps) (same_event_lem j)
 
-  pub masks_then : {i mask : ℕ} {new : List (List ℕ)} → Masked i mask now new → MasksOnly old new
+  pub masks_then : {i mask : ℕ} {new : List Entry} → Masked i mask now new → MasksOnly old new
   masks_then {i} {mask} {new} p = record { size = p.size; each = λ j. ⊎_elim (λ q. rw q here) (λ d. there j d) (same j i) }
     where
       here : event_at new i ≡ masked (event_at old i) (mask_at new i)
@@ -47,31 +46,32 @@ module _ {old now : List (List ℕ)} (m : MasksOnly old now) where
 
       there : (j : ℕ) → (j ≡ i → ⊥) → event_at new j ≡ masked (event_at old j) (mask_at new j)
       there j d =
-          let e = ap entry_of (p.others j d) in
+          let e = p.others j d in
           e ∙ m.each j ∙ ap (λ x. masked (event_at old j) x) (sym (ap (λ h. h.held) e))
 
-pub masks_trans : {old now new : List (List ℕ)} → MasksOnly old now → MasksOnly now new → MasksOnly old new
+pub masks_trans : {old now new : List Entry} → MasksOnly old now → MasksOnly now new → MasksOnly old new
 masks_trans {new = new} p q = record { size = q.size; each = λ j. q.each j ∙ ap (λ h. masked h (mask_at new j)) (p.each j) }
 
 -- What events carry changed, one after the other.
 
-pub held_event : {old now : List (List ℕ)} → HoldingsOnly old now → (j : ℕ) → (event_at now j).event ≡ (event_at old j).event
+pub held_event : {old now : List Entry} → HoldingsOnly old now → (j : ℕ) → (event_at now j).event ≡ (event_at old j).event
 held_event m j = ap (λ h. h.event) (m.each j)
 
-pub masks_holdings : {old now : List (List ℕ)} → MasksOnly old now → HoldingsOnly old now
+pub masks_holdings : {old now : List Entry} → MasksOnly old now → HoldingsOnly old now
 masks_holdings {old} {now} m = record { size = m.size; each = λ j. m.each j ∙ ap (λ h. with_holding (event_at old j) (holding_of h)) (sym (m.each j)) }
 
-pub holdings_trans : {old now new : List (List ℕ)} → HoldingsOnly old now → HoldingsOnly now new → HoldingsOnly old new
+pub holdings_trans : {old now new : List Entry} → HoldingsOnly old now → HoldingsOnly now new → HoldingsOnly old new
 holdings_trans {new = new} p q = record { size = q.size; each = λ j. q.each j ∙ ap (λ h. with_holding h (holding_of (event_at new j))) (p.each j) }
 
 -- what a place has in the end that a claim comes to: all that it had if it is better, else what is not claimed
 abbrev against : (ℕ → Rank) → ℕ → ℕ → (ℕ → ℕ) → ℕ → ℕ
 against rank i claim masks j = cond (better (rank j) (rank i)) (masks j) (cut (masks j) claim)
 
-pub record Contesting (d : Head) (i : ℕ) (old : List (List ℕ)) (holding : ℕ) (now : List (List ℕ)) (left after rest : ℕ) : Type 0 where
+pub record Contesting (d : Head) (i : ℕ) (old : List Entry) (holding : ℕ) (now : List Entry) (left after rest : ℕ) : Type 0 where
   pub comes : Comes d old holding i
   pub within : (j : ℕ) → has rest j ≡ true → has holding j ≡ true
   pub masks : MasksOnly old now
+  pub behind : SameFrom d.count old now
   pub holders : Holders d.count now after
   pub own : mask_at now i ≡ 0
   pub met : (j : ℕ) → j < d.count → (j ≡ i → ⊥) → has rest j ≡ false → mask_at now j ≡ against (rank_in d.programs old) i (event_at old i).event.controls (mask_at old) j
@@ -79,7 +79,7 @@ pub record Contesting (d : Head) (i : ℕ) (old : List (List ℕ)) (holding : �
   pub claim : (k : ℕ) → (has left k ≡ true) ↔ ((has (event_at old i).event.controls k ≡ true)
       × ((o : ℕ) → o < d.count → has rest o ≡ false → has (mask_at old o) k ≡ true → better (rank_in d.programs old o) (rank_in d.programs old i) ≡ false))
 
-module _ {d : Head} {i : ℕ} {old : List (List ℕ)} {holding : ℕ} (c : Comes d old holding i) where
+module _ {d : Head} {i : ℕ} {old : List Entry} {holding : ℕ} (c : Comes d old holding i) where
   -- who is no holder has nothing
   nothing_there : (j : ℕ) → j < d.count → has holding j ≡ false → mask_at old j ≡ 0
   nothing_there j l e = go (eqb (mask_at old j) 0) refl
@@ -93,6 +93,7 @@ module _ {d : Head} {i : ℕ} {old : List (List ℕ)} {holding : ℕ} (c : Comes
     comes = c;
     within = λ j e. e;
     masks = record { size = c.held.used.size; each = λ j. refl };
+    behind = λ j l. refl;
     holders = c.held.holders;
     own = c.empty;
     met = λ j l q e. let z = nothing_there j l e in z ∙ sym (rw z (none (better (rank_in d.programs old j) (rank_in d.programs old i))));
@@ -106,18 +107,12 @@ module _ {d : Head} {i : ℕ} {old : List (List ℕ)} {holding : ℕ} (c : Comes
 
 -- One holder more is met.
 
-module _ {d : Head} {i : ℕ} {old : List (List ℕ)} {holding : ℕ} {now : List (List ℕ)} {left held rest : ℕ} (c : Contesting d i old holding now left held rest) {next : Next} (low : Lowest rest next) where
+module _ {d : Head} {i : ℕ} {old : List Entry} {holding : ℕ} {now : List Entry} {left held rest : ℕ} (c : Contesting d i old holding now left held rest) {at later : ℕ} (low : Lowest rest at later) where
   abbrev ps : List Program
   ps = d.programs
 
   abbrev carried : ℕ
   carried = (event_at old i).event.controls
-
-  abbrev at : ℕ
-  at = next.place
-
-  abbrev later : ℕ
-  later = next.rest
 
   holds_some : (at < d.count) × (mask_at old at ≡ 0 → ⊥)
   holds_some = (c.comes.held.holders at).0 (c.within at low.here)
@@ -132,7 +127,7 @@ module _ {d : Head} {i : ℕ} {old : List (List ℕ)} {holding : ℕ} {now : Lis
   pub met_mask : mask_at now at ≡ mask_at old at
   met_mask = c.unmet at low.here
 
-  module _ (new : List (List ℕ)) (left' held' : ℕ) (masks : MasksOnly old new) (holders : Holders d.count new held')
+  module _ (new : List Entry) (left' held' : ℕ) (masks : MasksOnly old new) (behind : SameFrom d.count old new) (holders : Holders d.count new held')
       (here : mask_at new at ≡ against (rank_in ps old) i carried (mask_at old) at) (others : (j : ℕ) → (j ≡ at → ⊥) → mask_at new j ≡ mask_at now j)
       (claim : (k : ℕ) → (has left' k ≡ true) ↔ ((has left k ≡ true) × (has (mask_at old at) k ≡ true → better (rank_in ps old at) (rank_in ps old i) ≡ false))) where
     meets : Contesting d i old holding new left' held' later
@@ -140,6 +135,7 @@ module _ {d : Head} {i : ℕ} {old : List (List ℕ)} {holding : ℕ} {now : Lis
       comes = c.comes;
       within = λ j e. c.within j (still low j e);
       masks = masks;
+      behind = behind;
       holders = holders;
       own = others i another ∙ c.own;
       met = λ j l q e. ⊎_elim (λ z. rw z here) (λ z. others j (λ y. both (has rest j) (rw y low.here) z) ∙ c.met j l q z) (or_lowest low j e);
@@ -156,7 +152,7 @@ module _ {d : Head} {i : ℕ} {old : List (List ℕ)} {holding : ℕ} {now : Lis
 
   -- it has nothing that is claimed
   pub passes : bit_and carried (mask_at old at) ≡ 0 → Contesting d i old holding now left held later
-  passes e = meets now left held c.masks c.holders (met_mask ∙ go (better (rank_in ps old at) (rank_in ps old i))) (λ j q. refl) (λ k.
+  passes e = meets now left held c.masks c.behind c.holders (met_mask ∙ go (better (rank_in ps old at) (rank_in ps old i))) (λ j q. refl) (λ k.
       (λ h. (h, λ m. apart k ((c.claim k).0 h).0 m), λ q. q.0))
     where
       apart : {P : Type 0} (k : ℕ) → has carried k ≡ true → has (mask_at old at) k ≡ true → P
@@ -168,7 +164,7 @@ module _ {d : Head} {i : ℕ} {old : List (List ℕ)} {holding : ℕ} {now : Lis
 
   -- it is better, and keeps what it has
   pub yields : better (rank_in ps old at) (rank_in ps old i) ≡ true → Contesting d i old holding now (cut left (mask_at old at)) held later
-  yields e = meets now _ held c.masks c.holders (met_mask ∙ sym (rw e)) (λ j q. refl) (λ k. rw (has_cut left (mask_at old at) k, e) (go k (has (mask_at old at) k) refl))
+  yields e = meets now _ held c.masks c.behind c.holders (met_mask ∙ sym (rw e)) (λ j q. refl) (λ k. rw (has_cut left (mask_at old at) k, e) (go k (has (mask_at old at) k) refl))
     where
       go : (k : ℕ) (b : Bool) → has (mask_at old at) k ≡ b → ((has left k && not b) ≡ true) ↔ ((has left k ≡ true) × (b ≡ true → true ≡ false))
       go k b h = (λ p. let q = each_true (has left k) (not b) p in (q.0, λ z. both true refl (rw z at (sym q.1))), λ q. last b q.0 q.1)
@@ -178,21 +174,22 @@ module _ {d : Head} {i : ℕ} {old : List (List ℕ)} {holding : ℕ} {now : Lis
           last false p f = rw p
 
   -- it is not better, and loses what is claimed
-  pub takes : {new : List (List ℕ)} {held' : ℕ} → better (rank_in ps old at) (rank_in ps old i) ≡ false → Masked at (cut (mask_at old at) carried) now new
+  pub takes : {new : List Entry} {held' : ℕ} → better (rank_in ps old at) (rank_in ps old i) ≡ false → Masked at (cut (mask_at old at) carried) now new
       → Kept at (cut (mask_at old at) carried) held held' → Contesting d i old holding new left held' later
-  takes {new} {held'} e p q = meets new left held' (masks_then c.masks p) (holders_kept held at _ c.holders met_below p q)
-      (ap (λ h. h.held) p.here ∙ sym (rw e)) (λ j n. ap (λ x. (entry_of x).held) (p.others j n)) (λ k. (λ h. (h, λ m. e), λ z. z.0))
+  takes {new} {held'} e p q = meets new left held' (masks_then c.masks p) (λ j l. p.others j (λ z. omega (arith, met_below)) ∙ c.behind j l) (holders_kept held at _ c.holders met_below p q)
+      (ap (λ h. h.held) p.here ∙ sym (rw e)) (λ j n. ap (λ h. h.held) (p.others j n)) (λ k. (λ h. (h, λ m. e), λ z. z.0))
 
 -- All are met, and the event has what is left.
-pub contended : {d : Head} {i : ℕ} {old : List (List ℕ)} {holding : ℕ} {now : List (List ℕ)} {left held rest : ℕ} → Contesting d i old holding now left held rest → rest ≡ 0
-    → {new : List (List ℕ)} {held' : ℕ} → Masked i left now new → Kept i left held held' → Contended d i old new held'
+pub contended : {d : Head} {i : ℕ} {old : List Entry} {holding : ℕ} {now : List Entry} {left held rest : ℕ} → Contesting d i old holding now left held rest → rest ≡ 0
+    → {new : List Entry} {held' : ℕ} → Masked i left now new → Kept i left held held' → Contended d i old new held'
 contended {d} {i} {old} {holding} {now} {left} {held} {rest} c e {new} {held'} p q =
     let none : (j : ℕ) → has rest j ≡ false = λ j. ap (λ m. has m j) e ∙ has_none j in
     record {
       masks = masks_then c.masks p;
+      behind = λ j l. p.others j (λ z. omega (arith, c.comes.below)) ∙ c.behind j l;
       holders = holders_kept held i left c.holders c.comes.below p q;
       contends = record {
-        others = λ j l n. ap (λ x. (entry_of x).held) (p.others j n) ∙ c.met j l n (none j);
+        others = λ j l n. ap (λ h. h.held) (p.others j n) ∙ c.met j l n (none j);
         own = λ k. let f = ap (λ h. has h.held k) p.here in (
           λ h. let z = (c.claim k).0 (sym f ∙ h) in (z.0, λ o l m. z.1 o l (none o) m),
           λ h. f ∙ (c.claim k).1 (h.0, λ o l n m. h.1 o l m),
@@ -216,16 +213,16 @@ no_turns set i = go (has set i)
 all_turned : (set rest i : ℕ) → rest ≡ 0 → turned set rest i ≡ has set i
 all_turned set rest i e = rw (e, has_none, and-true)
 
-module _ (set : ℕ) {rest : ℕ} {next : Next} (low : Lowest rest next) where
-  its_turn : has set next.place ≡ true → turned set next.rest next.place ≡ true
+module _ (set : ℕ) {rest : ℕ} {place later : ℕ} (low : Lowest rest place later) where
+  its_turn : has set place ≡ true → turned set later place ≡ true
   its_turn e = rw (e, low.gone)
 
-  not_its_turn : (i : ℕ) → (i ≡ next.place → ⊥) → turned set next.rest i ≡ turned set rest i
+  not_its_turn : (i : ℕ) → (i ≡ place → ⊥) → turned set later i ≡ turned set rest i
   not_its_turn i d = rw (low.others i d)
 
 -- Rows.
 
-module _ (t kind : ℕ) (slots : List (List ℕ)) (set : ℕ) where
+module _ (t kind : ℕ) (slots : List Entry) (set : ℕ) where
   -- the rows done and those of `rest` make up those of the set
   pub record Reporting (old : List ℕ) (from : ℕ) (rows : List ℕ) (at rest : ℕ) : Type 0 where
     pub within : (k : ℕ) → has rest k ≡ true → k < most_events
@@ -240,23 +237,23 @@ module _ (t kind : ℕ) (slots : List (List ℕ)) (set : ℕ) where
   abbrev row_at : ℕ → Row
   row_at i = record { time = t; id = id_of (event_at slots i).event; code = kind_code kind (event_at slots i) }
 
-  module _ {old rows : List ℕ} {from at rest : ℕ} (c : Reporting old from rows at rest) {next : Next} (low : Lowest rest next) where
-    pub next_place : next.place < most_events
-    next_place = c.within next.place low.here
+  module _ {old rows : List ℕ} {from at rest : ℕ} (c : Reporting old from rows at rest) {place later : ℕ} (low : Lowest rest place later) where
+    pub next_place : place < most_events
+    next_place = c.within place low.here
 
     -- the next row, and then those of the others
-    rows_in_order : set_rows t kind slots rest ≡ row_at next.place ∷ set_rows t kind slots next.rest
+    rows_in_order : set_rows t kind slots rest ≡ row_at place ∷ set_rows t kind slots later
     rows_in_order = ap (map row_at) (in_order low most_events next_place)
 
     pub has_room : from + length (set_rows t kind slots set) ≤ most_rows → at < most_rows
     has_room l = omega (arith, c.written.count, length-append c.done (set_rows t kind slots rest), ap length c.whole, ap length rows_in_order)
 
-    pub report_next : {more : List ℕ} → Written rows at more (at + 1) (row_at next.place ∷ []) → Reporting old from more (at + 1) next.rest
+    pub report_next : {more : List ℕ} → Written rows at more (at + 1) (row_at place ∷ []) → Reporting old from more (at + 1) later
     report_next w = record {
       within = λ k e. c.within k (still low k e);
-      done = c.done ++ (row_at next.place ∷ []);
+      done = c.done ++ (row_at place ∷ []);
       written = rows_then c.written w;
-      whole = append_assoc c.done (row_at next.place ∷ []) (set_rows t kind slots next.rest) ∙ ap (λ z. c.done ++ z) (sym rows_in_order) ∙ c.whole;
+      whole = append_assoc c.done (row_at place ∷ []) (set_rows t kind slots later) ∙ ap (λ z. c.done ++ z) (sym rows_in_order) ∙ c.whole;
     }
 
   pub all_reported : {old rows : List ℕ} {from at rest : ℕ} → Reporting old from rows at rest → rest ≡ 0 → Written old from rows at (set_rows t kind slots set)
@@ -266,13 +263,13 @@ module _ (t kind : ℕ) (slots : List (List ℕ)) (set : ℕ) where
 
 -- Controls let go.
 
-pub record Releasing (ended holding : ℕ) (old new : List (List ℕ)) (now rest : ℕ) : Type 0 where
+pub record Releasing (ended holding : ℕ) (old new : List Entry) (now rest : ℕ) : Type 0 where
   pub within : (k : ℕ) → has rest k ≡ true → has ended k ≡ true
   pub masks : MasksOnly old new
   pub released : (i : ℕ) → mask_at new i ≡ cond (turned ended rest i) 0 (mask_at old i)
   pub holders : (i : ℕ) → has now i ≡ (has holding i && not (turned ended rest i))
 
-pub none_released : (ended holding : ℕ) (old : List (List ℕ)) → length old ≡ most_events → Releasing ended holding old old holding ended
+pub none_released : (ended holding : ℕ) (old : List Entry) → length old ≡ most_events → Releasing ended holding old old holding ended
 none_released ended holding old s = record {
   within = λ k e. e;
   masks = record { size = s; each = λ j. refl };
@@ -280,19 +277,19 @@ none_released ended holding old s = record {
   holders = λ i. rw (no_turns ended i) (sym (and-true (has holding i)));
 }
 
-pub release_next : {ended holding now rest : ℕ} {old new slots : List (List ℕ)} {then : ℕ} → Releasing ended holding old new now rest → {next : Next} → Lowest rest next
-    → Masked next.place 0 new slots → Kept next.place 0 now then → Releasing ended holding old slots then next.rest
-release_next {ended} {holding} {now} {rest} {old} {new} {slots} {then} c {next} low m n = record {
+pub release_next : {ended holding now rest : ℕ} {old new slots : List Entry} {then : ℕ} → Releasing ended holding old new now rest → {place later : ℕ} → Lowest rest place later
+    → Masked place 0 new slots → Kept place 0 now then → Releasing ended holding old slots then later
+release_next {ended} {holding} {now} {rest} {old} {new} {slots} {then} c {place} {later} low m n = record {
   within = λ k e. c.within k (still low k e);
   masks = masks_then c.masks m;
-  released = λ i. ⊎_elim (λ q. rw q (ap (λ h. h.held) m.here ∙ sym (rw turn))) (λ d. ap (λ x. (entry_of x).held) (m.others i d) ∙ c.released i ∙ (rw (not_its_turn ended low i d))) (same i next.place);
-  holders = λ i. n.each i ∙ ⊎_elim (λ q. rw q (rw (turn, eq-eqb next.place next.place refl) (sym (and-false (has holding next.place))))) (λ d. rw (ne_eqb i next.place d, not_its_turn ended low i d) (c.holders i)) (same i next.place);
+  released = λ i. ⊎_elim (λ q. rw q (ap (λ h. h.held) m.here ∙ sym (rw turn))) (λ d. ap (λ x. x.held) (m.others i d) ∙ c.released i ∙ (rw (not_its_turn ended low i d))) (same i place);
+  holders = λ i. n.each i ∙ ⊎_elim (λ q. rw q (rw (turn, eq-eqb place place refl) (sym (and-false (has holding place))))) (λ d. rw (ne_eqb i place d, not_its_turn ended low i d) (c.holders i)) (same i place);
 }
   where
-    turn : turned ended next.rest next.place ≡ true
-    turn = its_turn ended low (c.within next.place low.here)
+    turn : turned ended later place ≡ true
+    turn = its_turn ended low (c.within place low.here)
 
-pub all_released : {ended holding now rest : ℕ} {old new : List (List ℕ)} → Releasing ended holding old new now rest → rest ≡ 0 → Released ended holding old new now
+pub all_released : {ended holding now rest : ℕ} {old new : List Entry} → Releasing ended holding old new now rest → rest ≡ 0 → Released ended holding old new now
 all_released {ended} {rest = rest} c e = record {
   masks = c.masks;
   released = λ i. c.released i ∙ (rw (all_turned ended rest i e));
@@ -301,48 +298,48 @@ all_released {ended} {rest = rest} c e = record {
 
 -- Seconds counted.
 
-pub record Counting (places : ℕ) (old now : List (List ℕ)) (rest : ℕ) : Type 0 where
+pub record Counting (places : ℕ) (old now : List Entry) (rest : ℕ) : Type 0 where
   pub within : (k : ℕ) → has rest k ≡ true → has places k ≡ true
   pub size : length now ≡ most_events
   pub each : (j : ℕ) → event_at now j ≡ cond (turned places rest j) (counting (event_at old j)) (event_at old j)
 
-pub none_counted : (places : ℕ) (old : List (List ℕ)) → length old ≡ most_events → Counting places old old places
+pub none_counted : (places : ℕ) (old : List Entry) → length old ≡ most_events → Counting places old old places
 none_counted places old s = record { within = λ k e. e; size = s; each = λ j. rw (no_turns places j) }
 
-pub count_next : {places rest : ℕ} {old now : List (List ℕ)} → Counting places old now rest → {next : Next} → Lowest rest next → next.place < most_events
-    → (x : List ℕ) → entry_of x ≡ counting (event_at now next.place) → Counting places old (set now next.place x) next.rest
-count_next {places} {rest} {old} {now} c {next} low l x e = record {
+pub count_next : {places rest : ℕ} {old now : List Entry} → Counting places old now rest → {place later : ℕ} → Lowest rest place later → place < most_events
+    → Counting places old (set now place (counting (event_at now place))) later
+count_next {places} {rest} {old} {now} c {place} {later} low l = record {
   within = λ k p. c.within k (still low k p);
-  size = length-set now next.place x ∙ c.size;
-  each = λ j. ⊎_elim (λ q. rw q here) (λ d. ap entry_of (get_or-set_other now next.place j x [] d) ∙ c.each j ∙ sym (rw (not_its_turn places low j d))) (same j next.place);
+  size = length-set now place _ ∙ c.size;
+  each = λ j. ⊎_elim (λ q. rw q here) (λ d. get_or-set_other now place j _ blank d ∙ c.each j ∙ sym (rw (not_its_turn places low j d))) (same j place);
 }
   where
-    here : event_at (set now next.place x) next.place ≡ cond (turned places next.rest next.place) (counting (event_at old next.place)) (event_at old next.place)
+    here : event_at (set now place (counting (event_at now place))) place ≡ cond (turned places later place) (counting (event_at old place)) (event_at old place)
     here =
-        let not_yet : turned places rest next.place ≡ false = rw (c.within next.place low.here, low.here) in
-        ap entry_of (get_or-set_same now next.place x [] (omega (arith, c.size))) ∙ e
-        ∙ ap counting (c.each next.place ∙ ap (λ b. cond b (counting (event_at old next.place)) (event_at old next.place)) not_yet)
-        ∙ sym (rw (its_turn places low (c.within next.place low.here)))
+        let not_yet : turned places rest place ≡ false = rw (c.within place low.here, low.here) in
+        get_or-set_same now place _ blank (omega (arith, c.size))
+        ∙ ap counting (c.each place ∙ ap (λ b. cond b (counting (event_at old place)) (event_at old place)) not_yet)
+        ∙ sym (rw (its_turn places low (c.within place low.here)))
 
-pub all_counted : {places rest : ℕ} {old now : List (List ℕ)} → Counting places old now rest → rest ≡ 0 → SecondCounted places old now
+pub all_counted : {places rest : ℕ} {old now : List Entry} → Counting places old now rest → rest ≡ 0 → SecondCounted places old now
 all_counted {places} {rest} c e = record { size = c.size; each = λ j. c.each j ∙ (rw (all_turned places rest j e)) }
 
 -- a held second counted changes nothing else, and no mask
-pub counted_holdings : {places : ℕ} {old now : List (List ℕ)} → SecondCounted places old now → HoldingsOnly old now
+pub counted_holdings : {places : ℕ} {old now : List Entry} → SecondCounted places old now → HoldingsOnly old now
 counted_holdings {places} {old} {now} c = record { size = c.size; each = λ j. c.each j ∙ go j (has places j) ∙ ap (λ h. with_holding (event_at old j) (holding_of h)) (sym (c.each j)) }
   where
     go : (j : ℕ) (b : Bool) → cond b (counting (event_at old j)) (event_at old j) ≡ with_holding (event_at old j) (holding_of (cond b (counting (event_at old j)) (event_at old j)))
     go j true = refl
     go j false = refl
 
-pub counted_mask : {places : ℕ} {old now : List (List ℕ)} → SecondCounted places old now → (j : ℕ) → mask_at now j ≡ mask_at old j
+pub counted_mask : {places : ℕ} {old now : List Entry} → SecondCounted places old now → (j : ℕ) → mask_at now j ≡ mask_at old j
 counted_mask {places} {old} c j = ap (λ h. h.held) (c.each j) ∙ go (has places j)
   where
     go : (b : Bool) → (cond b (counting (event_at old j)) (event_at old j)).held ≡ mask_at old j
     go true = refl
     go false = refl
 
-pub counted_holders : {places n : ℕ} (holding : ℕ) {old now : List (List ℕ)} → SecondCounted places old now → Holders n old holding → Holders n now holding
+pub counted_holders : {places n : ℕ} (holding : ℕ) {old now : List Entry} → SecondCounted places old now → Holders n old holding → Holders n now holding
 counted_holders holding c h i = (
   λ e. let q = (h i).0 e in (q.0, λ z. q.1 (sym (counted_mask c i) ∙ z)),
   λ q. (h i).1 (q.0, λ z. q.1 (counted_mask c i ∙ z)),
@@ -354,29 +351,28 @@ pub settled_cong : {rank : ℕ → Rank} {n : ℕ} {a b kept : ℕ → ℕ} → 
 settled_cong {rank} {n} {a} {b} {kept} e s = subst (λ c. Settled rank n c kept) (fun_ext e) s
 
 -- what each claims, where some have begun and the others have what they had
-abbrev claims_of : List (List ℕ) → (ℕ → Bool) → ℕ → ℕ
+abbrev claims_of : List Entry → (ℕ → Bool) → ℕ → ℕ
 claims_of w begun i = cond (begun i) (event_at w i).event.controls (mask_at w i)
 
-pub record Starting (d : Head) (old : List (List ℕ)) (holding starting : ℕ) (now : List (List ℕ)) (held rest : ℕ) : Type 0 where
+pub record Starting (d : Head) (old : List Entry) (holding starting : ℕ) (now : List Entry) (held rest : ℕ) : Type 0 where
   pub can : CanStart d old holding starting
   pub within : (i : ℕ) → has rest i ≡ true → has starting i ≡ true
   pub masks : MasksOnly old now
+  pub behind : SameFrom d.count old now
   pub holders : Holders d.count now held
   pub settled : Settled (rank_in d.programs old) d.count (claims_of old (turned starting rest)) (mask_at now)
 
-pub none_started : {d : Head} {old : List (List ℕ)} {holding starting : ℕ} → CanStart d old holding starting → Starting d old holding starting old holding starting
+pub none_started : {d : Head} {old : List Entry} {holding starting : ℕ} → CanStart d old holding starting → Starting d old holding starting old holding starting
 none_started {d} {old} {holding} {starting} c = record {
   can = c;
   within = λ i e. e;
   masks = record { size = c.held.used.size; each = λ i. refl };
+  behind = λ j l. refl;
   holders = c.held.holders;
   settled = settled_cong (λ i. sym (rw (no_turns starting i))) c.settled;
 }
 
-module _ {d : Head} {old : List (List ℕ)} {holding starting : ℕ} {now : List (List ℕ)} {held rest : ℕ} (c : Starting d old holding starting now held rest) {next : Next} (low : Lowest rest next) where
-  abbrev place : ℕ
-  place = next.place
-
+module _ {d : Head} {old : List Entry} {holding starting : ℕ} {now : List Entry} {held rest : ℕ} (c : Starting d old holding starting now held rest) {place later : ℕ} (low : Lowest rest place later) where
   starts : has starting place ≡ true
   starts = c.within place low.here
 
@@ -397,25 +393,26 @@ module _ {d : Head} {old : List (List ℕ)} {holding starting : ℕ} {now : List
     empty = no_bits (mask_at now place) (λ k e. not_has _ k nothing_yet ((c.settled.each place start_below k).0 e).0);
   }
 
-  module _ {new : List (List ℕ)} {held' : ℕ} (q : Contended d place now new held') where
+  module _ {new : List Entry} {held' : ℕ} (q : Contended d place now new held') where
     contends : Contends (rank_in d.programs old) d.count place (event_at old place).event.controls (mask_at now) (mask_at new)
     contends =
         subst (λ m. Contends (rank_in d.programs old) d.count place m (mask_at now) (mask_at new)) (ap (λ e. e.controls) (same_event_lem c.masks place))
         (subst (λ r. Contends r d.count place (event_at now place).event.controls (mask_at now) (mask_at new)) (fun_ext (same_rank c.masks d.programs)) q.contends)
 
-    pub start_next : Starting d old holding starting new held' next.rest
+    pub start_next : Starting d old holding starting new held' later
     start_next = record {
       can = c.can;
       within = λ i e. c.within i (still low i e);
       masks = masks_trans c.masks q.masks;
+      behind = λ j l. q.behind j l ∙ c.behind j l;
       holders = q.holders;
       settled = settled_cong (λ i. go i (eqb i place) refl) (one_more c.settled start_below c.can.distinct (λ k e. not_has _ k nothing_yet e) contends);
     }
       where
-        go : (i : ℕ) (b : Bool) → eqb i place ≡ b → cond b (event_at old place).event.controls (claims_of old (turned starting rest) i) ≡ claims_of old (turned starting next.rest) i
+        go : (i : ℕ) (b : Bool) → eqb i place ≡ b → cond b (event_at old place).event.controls (claims_of old (turned starting rest) i) ≡ claims_of old (turned starting later) i
         go i true e = let z = eqb-true i place e in rw z (sym (rw (its_turn starting low starts)))
         go i false e = rw (not_its_turn starting low i (eqb-false i place e))
 
-pub all_started : {d : Head} {old : List (List ℕ)} {holding starting : ℕ} {now : List (List ℕ)} {held rest : ℕ} → Starting d old holding starting now held rest → rest ≡ 0
+pub all_started : {d : Head} {old : List Entry} {holding starting : ℕ} {now : List Entry} {held rest : ℕ} → Starting d old holding starting now held rest → rest ≡ 0
     → Started d starting old now held
-all_started {starting = starting} {rest = rest} c e = record { masks = c.masks; holders = c.holders; settled = settled_cong (λ i. rw (all_turned starting rest i e)) c.settled }
+all_started {starting = starting} {rest = rest} c e = record { masks = c.masks; behind = c.behind; holders = c.holders; settled = settled_cong (λ i. rw (all_turned starting rest i e)) c.settled }

@@ -1,11 +1,10 @@
 -- The starts and ends that a clock call passes, each one number, in ascending order.
-use Rattle.std.specs.Prelude.{◌≡◌, ◌⊎◌, ◌↔◌, ℕ, ◌+◌, ◌*◌, ◌%◌, ◌<◌, ◌≤◌, true, false, List, [], length, get_or}
+use Rattle.std.specs.Prelude.{◌≡◌, ◌⊎◌, ◌↔◌, ℕ, ◌+◌, ◌*◌, ◌%◌, ◌<◌, ◌≤◌, true, false, List, length, get_or}
 use Rattle.rules.specs.declared.Entry.{Entry}
 use Rattle.rules.specs.Records.{has, most_events}
 use Rattle.rules.specs.Holding.{end_of}
 use Rattle.calls.specs.declared.agenda.Taken.{Taken}
-use Rattle.calls.specs.Slots.{entry_of}
-use Rattle.calls.specs.Sets.{set_width}
+use Rattle.calls.specs.Sets.{event_at, set_width}
 
 -- an event begins once and ends once
 abbrev pub most_changes : ℕ
@@ -39,12 +38,12 @@ abbrev pub Planned : List ℕ → ℕ → Type 0
 Planned a x = (j : ℕ) × (j < agenda_size) × (get_or a j 0 ≡ x)
 
 -- the changes of the first n events after the clock and up to the reading, all of them and nothing else, in order; then end marks
-pub record Agenda (clock to n : ℕ) (w : List (List ℕ)) (a : List ℕ) : Type 0 where
+pub record Agenda (clock to n : ℕ) (w : List Entry) (a : List ℕ) : Type 0 where
   pub size : length a ≡ agenda_size
   pub ascends : (j k : ℕ) → j ≤ k → k < agenda_size → get_or a j 0 ≤ get_or a k 0
   pub ends : get_or a most_changes 0 ≡ nothing
-  pub all : (i : ℕ) → i < n → (x : ℕ) → Change clock to (entry_of (get_or w i [])) i x → Planned a x
-  pub only : (j : ℕ) → j < agenda_size → (get_or a j 0 ≡ nothing) ⊎ ((i : ℕ) × (i < n) × Change clock to (entry_of (get_or w i [])) i (get_or a j 0))
+  pub all : (i : ℕ) → i < n → (x : ℕ) → Change clock to (event_at w i) i x → Planned a x
+  pub only : (j : ℕ) → j < agenda_size → (get_or a j 0 ≡ nothing) ⊎ ((i : ℕ) × (i < n) × Change clock to (event_at w i) i (get_or a j 0))
 
 -- numbers in ascending order, and end marks from place m on
 pub record Filled (m : ℕ) (a : List ℕ) : Type 0 where

@@ -1,13 +1,11 @@
 -- What a call returned and left behind, read as an outcome of the definitions.
-use Rattle.std.specs.Prelude.{◌≡◌, ℕ, List, []}
-use Rattle.rules.specs.declared.Answer.{Answer}
-use Rattle.rules.specs.declared.Answer.TheVariants.{Refused}
+use Rattle.std.specs.Prelude.{ℕ, List, [], Result, Ok, Err}
+use Rattle.rules.specs.declared.Refusal.{Refusal}
+use Rattle.rules.specs.declared.Reply.{Reply}
 use Rattle.rules.specs.declared.Record.{Record}
 use Rattle.rules.specs.declared.Schedule.{Schedule}
-use Rattle.rules.specs.Calls.{Value, Outcome, number_of, value_of}
+use Rattle.rules.specs.Calls.{Outcome, refusal_number, number_of, value_of}
 use Rattle.calls.specs.declared.Answered.{Answered}
-use Rattle.calls.specs.declared.Acted.{Acted}
-use Rattle.calls.specs.Slots.{schedule_of, InUse}
 
 -- of a call by value: number and value of the answer, the schedule, the lent buffer and the lent list as the call ended
 abbrev pub outcome_of : Answered → List ℕ → List Record → Outcome
@@ -15,29 +13,14 @@ outcome_of r bytes records =
     record { number = number_of r.answer; value = value_of r.answer; state = r.schedule; bytes = bytes; records = records }
 
 -- a refusal by value
-abbrev pub refused_with : ℕ → Schedule → Answered
-refused_with n s = record { answer = Refused n; schedule = s }
+abbrev pub refused_with : Refusal → Schedule → Answered
+refused_with e s = record { answer = Err e; schedule = s }
 
--- the same of a call that leaves the schedule as it is, and is lent nothing
-abbrev pub told : Answer → Schedule → Outcome
+-- of a call on a schedule in place that is lent nothing else: the answer, and the schedule as the call ended
+abbrev pub told : Result Reply Refusal → Schedule → Outcome
 told a s = record { number = number_of a; value = value_of a; state = s; bytes = []; records = [] }
 
--- an answer that is no refusal, and its value
-pub record Tells (a : Answer) (v : Value) : Type 0 where
-  pub number : number_of a ≡ 0
-  pub value : value_of a ≡ v
-
--- what a call on slots gave, by value
-pub record ByValue (a : Acted) (w : List (List ℕ)) (r : Answered) : Type 0 where
-  pub answer : r.answer ≡ a.answer
-  pub schedule : r.schedule ≡ schedule_of a.head w
-
--- the same of a call on slots
-abbrev pub outcome_in : Acted → List (List ℕ) → List ℕ → Outcome
-outcome_in r w bytes =
-    record { number = number_of r.answer; value = value_of r.answer; state = schedule_of r.head w; bytes = bytes; records = [] }
-
--- a call on slots gives and leaves an outcome
-pub record Acts (r : Acted) (w : List (List ℕ)) (bytes : List ℕ) (o : Outcome) : Type 0 where
-  pub used : InUse r.head.count w
-  pub outcome : outcome_in r w bytes ≡ o
+-- the number that a test gives, 0 if it refuses nothing
+abbrev pub checked : Result (Unit {0}) Refusal → ℕ
+checked (Ok u) = 0
+checked (Err e) = refusal_number e

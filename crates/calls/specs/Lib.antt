@@ -1,5 +1,5 @@
 -- What the functions under the calls promise to each other.
-pub mod Slots  -- the places of a slot, and the schedule that slots in use are
+pub mod Slots  -- the schedule that slots in use are
 pub mod Answered  -- what a call returned, read as an outcome of the definitions
 pub mod Best  -- the best default
 pub mod Found  -- the place of an id

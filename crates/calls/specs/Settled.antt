@@ -1,10 +1,11 @@
 -- Who keeps which control, over claims and ranks by place: claims settled at once, and a claim that comes in where others are settled.
 use Rattle.std.specs.Prelude.{◌≡◌, ◌↔◌, ℕ, ◌<◌, true, false, cond, List, eqb}
+use Rattle.rules.specs.declared.Entry.{Entry}
 use Rattle.rules.specs.Records.{has, cut}
 use Rattle.rules.specs.Holding.{Rank, better}
 use Rattle.calls.specs.declared.held.Head.{Head}
 use Rattle.calls.specs.Slots.{InUse}
-use Rattle.calls.specs.Sets.{event_at, mask_at, rank_in, Numbered, Holders, MasksOnly}
+use Rattle.calls.specs.Sets.{event_at, mask_at, rank_in, Numbered, Holders, MasksOnly, SameFrom}
 
 -- of the first n places none that has control k is better than i
 abbrev pub Unbeaten : (ℕ → Rank) → ℕ → (ℕ → ℕ) → ℕ → ℕ → Type 0
@@ -24,19 +25,20 @@ pub record Contends (rank : ℕ → Rank) (n i m : ℕ) (old new : ℕ → ℕ) 
   pub own : (k : ℕ) → (has (new i) k ≡ true) ↔ ((has m k ≡ true) × Unbeaten rank n old k i)
 
 -- slots in use whose events have programs, and the set of those that hold something
-pub record Held (d : Head) (w : List (List ℕ)) (holding : ℕ) : Type 0 where
+pub record Held (d : Head) (w : List Entry) (holding : ℕ) : Type 0 where
   pub used : InUse d.count w
   pub numbered : Numbered d.count w
   pub holders : Holders d.count w holding
 
 -- the event at place i, which holds nothing yet, can contend
-pub record Comes (d : Head) (w : List (List ℕ)) (holding i : ℕ) : Type 0 where
+pub record Comes (d : Head) (w : List Entry) (holding i : ℕ) : Type 0 where
   pub held : Held d w holding
   pub below : i < d.count
   pub empty : mask_at w i ≡ 0
 
 -- it has contended for all that it carries
-pub record Contended (d : Head) (i : ℕ) (old new : List (List ℕ)) (after : ℕ) : Type 0 where
+pub record Contended (d : Head) (i : ℕ) (old new : List Entry) (after : ℕ) : Type 0 where
   pub masks : MasksOnly old new
+  pub behind : SameFrom d.count old new
   pub holders : Holders d.count new after
   pub contends : Contends (rank_in d.programs old) d.count i (event_at old i).event.controls (mask_at old) (mask_at new)

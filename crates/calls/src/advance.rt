@@ -13,17 +13,11 @@ ghost use Rattle.rules.specs.Records.{has, last_clock, most_events};
 ghost use Rattle.rules.specs.Bytes.{rows_size};
 ghost use Rattle.calls.specs.Slots.{Ready};
 ghost use Rattle.calls.specs.Agenda.{Agenda};
-ghost use Rattle.calls.specs.Advanced.{Opened, Passes, Advances};
+ghost use Rattle.calls.specs.Advanced.{Opened, Passes, Advanced};
 
 use crate::clock::{Due, Standing};
-use crate::held::{Head, Rows, Slots};
-use crate::{agenda, clock, finish};
-
-#[derive(Clone, Copy)]
-pub(crate) struct Passed {
-    pub(crate) head: Head,
-    pub(crate) rows: usize,
-}
+use crate::held::{Head, Rows, Slots, SoundSchedule};
+use crate::{agenda, clock, finish, held};
 
 // What the moments leave besides the slots: the places of the events that have ended, and how many rows there are.
 #[derive(Clone, Copy)]
@@ -71,8 +65,9 @@ fn moments(d: Head, slots: &mut Slots, to: u64, agenda: &agenda::Agenda, rows: &
     let mut t = agenda::time_at(agenda, k);
     let mut s = open(slots, holding, is_quiet(d.clock, to, t));
     let mut ended = 0;
+    // Kept: no `for`, as the place of the next moment is where the one before left the agenda.
     while t <= to {
-        let ends = agenda::take(agenda, k, agenda::after_ends(t));
+        let ends = agenda::take(agenda, k, agenda::start_at(t, 0));
         let starts = agenda::take(agenda, ends.next, agenda::after_starts(t));
         let due = Due {
             ending: ends.places,
@@ -89,21 +84,24 @@ fn moments(d: Head, slots: &mut Slots, to: u64, agenda: &agenda::Agenda, rows: &
     }
 }
 
-// A reading: the moments up to it, and what has ended dropped.
-pub(crate) fn advance(mut d: Head, slots: &mut Slots, to: u64, rows: &mut Rows) -> Passed
-    requires ready { Ready d slots.old }
-    requires clock_le_to { (d.clock ≤ to) × (to ≤ last_clock) × (length rows.old ≡ rows_size) }
-    ensures { Advances d slots.old to rows.new result slots.new }
+// A reading: the moments up to it, and what has ended dropped; how many rows there are.
+pub(crate) fn advance(s: &mut SoundSchedule, to: u64, rows: &mut Rows) -> usize
+    requires { (s.old.schedule.clock ≤ to) × (to ≤ last_clock) × (length rows.old ≡ rows_size) }
+    ensures { Advanced s.old.schedule to rows.new s.new.schedule result }
 {
     let mut agenda: agenda::Agenda = [agenda::NOTHING; agenda::AGENDA_SIZE];
-    agenda::gather(d.clock, to, slots, d.count, &mut agenda);
-    let through = moments(d, slots, to, &agenda, rows);
+    agenda::gather(
+        s.schedule.clock,
+        to,
+        &s.schedule.entries,
+        s.schedule.count,
+        &mut agenda,
+    );
+    let d = held::head_of(&s.schedule);
+    let through = moments(d, &mut s.schedule.entries, to, &agenda, rows);
     if through.ended != 0 {
-        d.count = finish::finish(slots, d.count, through.ended);
+        s.schedule.count = finish::finish(&mut s.schedule.entries, s.schedule.count, through.ended);
     }
-    d.clock = to;
-    Passed {
-        head: d,
-        rows: through.rows,
-    }
+    s.schedule.clock = to;
+    through.rows
 }

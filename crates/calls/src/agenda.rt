@@ -1,11 +1,10 @@
 // The agenda of a clock call: the starts and ends that its reading passes, each one number, in ascending order, with an end mark behind them.
 ghost use Rattle.std.specs.Prelude.{◌≡◌, true, false, not, ◌&&◌, leb, ltb, ◌+◌, ◌-◌, ◌*◌, ◌/◌, ◌<◌, ◌≤◌, length, get_or, replicate};
 ghost use Rattle.rules.specs.Records.{most_events, last_clock};
-ghost use Rattle.calls.specs.Sets.{set_width};
 ghost use Rattle.calls.specs.Agenda.{most_changes, agenda_size, second_width, end_at, start_at, nothing, Agenda, Filled, Inserted, Stops, TakenTo};
 
 use crate::held::Slots;
-use crate::{bits, held};
+use crate::{bits, held, sorted};
 use rules::Schedule;
 
 // A start and an end for each event, and the end mark.
@@ -27,37 +26,21 @@ fn end_at(t: u64, i: usize) -> u64
     t * SECOND_WIDTH + i as u64
 }
 
-fn start_at(t: u64, i: usize) -> u64
+// Kept: beside `end_at`, a function each for the definitions of that name.
+pub(crate) fn start_at(t: u64, i: usize) -> u64
     requires { (t ≤ last_clock) × (i < most_events) }
     ensures { result ≡ start_at t i }
 {
     t * SECOND_WIDTH + bits::SET_WIDTH + i as u64
 }
 
-// Whether there is a change before place j, and it is later than x.
-fn is_later(agenda: &Agenda, j: usize, x: u64) -> bool
-    requires { j < agenda_size }
-    ensures { (result ≡ true → (0 < j) × (x < get_or agenda.now (j - 1) 0))
-        × (result ≡ false → 0 < j → get_or agenda.now (j - 1) 0 ≤ x) }
-{
-    if j == 0 {
-        return false;
-    }
-    x < agenda[j - 1]
-}
-
-// Puts x in its place among the first m. Those that are later move up by one, from the back.
+// Puts x in its place among the first m. Those that are later move up by one.
 fn plan(agenda: &mut Agenda, m: usize, x: u64)
     requires { (m < most_changes) × Filled m agenda.old }
     ensures { Inserted m x agenda.old agenda.new }
 {
-    let mut j = m;
-    while is_later(agenda, j, x) {
-        let before = agenda[j - 1];
-        agenda[j] = before;
-        j -= 1;
-    }
-    agenda[j] = x;
+    let at = agenda[..m].partition_point(|y| *y <= x);
+    sorted::put_in(agenda, m, at, x);
 }
 
 // Whether an event begins after the clock and up to the reading. A cancelled one never does.
@@ -73,10 +56,10 @@ pub(crate) fn gather(clock: u64, to: u64, slots: &Slots, n: usize, agenda: &mut 
     ensures { Agenda clock to n slots.now agenda.new }
 {
     let mut m = 0;
-    let mut i = 0;
-    while i < n {
-        let begins = held::begins_at(slots, i);
-        if is_coming(clock, to, held::is_cancelled_at(slots, i), begins) {
+    // Kept: no `enumerate`, as the place is what the changes carry, and `ends_at` takes the slots with it.
+    for i in 0..n {
+        let begins = slots[i].begins;
+        if is_coming(clock, to, slots[i].cancelled, begins) {
             plan(agenda, m, start_at(begins, i));
             m += 1;
         }
@@ -85,7 +68,6 @@ pub(crate) fn gather(clock: u64, to: u64, slots: &Slots, n: usize, agenda: &mut 
             plan(agenda, m, end_at(ends, i));
             m += 1;
         }
-        i += 1;
     }
 }
 
@@ -102,6 +84,7 @@ pub(crate) fn take(agenda: &Agenda, from: usize, bound: u64) -> Taken
     ensures { TakenTo agenda.now from bound result }
 {
     let mut places: u64 = 0;
+    // Kept: a `for` over the slice counts `next` as well, since the place is itself asked for, and adds the test and the `break`.
     let mut next = from;
     while agenda[next] < bound {
         places |= 1 << (agenda[next] % bits::SET_WIDTH);
@@ -118,14 +101,7 @@ pub(crate) fn time_at(agenda: &Agenda, k: usize) -> u64
     agenda[k] / SECOND_WIDTH
 }
 
-// The bounds of a moment: its ends come before the first, its starts before the second.
-pub(crate) fn after_ends(t: u64) -> u64
-    requires { t ≤ last_clock }
-    ensures { result ≡ t * second_width + set_width }
-{
-    t * SECOND_WIDTH + bits::SET_WIDTH
-}
-
+// The bound of a moment's starts. That of its ends is the start of the event at place 0.
 pub(crate) fn after_starts(t: u64) -> u64
     requires { t ≤ last_clock }
     ensures { result ≡ t * second_width + second_width }

@@ -2,16 +2,18 @@
 // those that end and those that begin at the moment, those that give a row, those for which a held second has been counted.
 ghost use Rattle.std.specs.Prelude.{◌≡◌, true, [], ◌∷◌, ℕ, ◌+◌, ◌≤◌, ◌<◌, length};
 ghost use Rattle.rules.specs.Records.{has, id_number, most_events, most_rows};
+ghost use Rattle.rules.specs.Calls.{response_number};
 ghost use Rattle.rules.specs.Rows.{end_code};
 ghost use Rattle.rules.specs.Bytes.{rows_size};
 ghost use Rattle.calls.specs.Slots.{InUse};
-ghost use Rattle.calls.specs.Sets.{event_at, Holders, SecondCounted, kind_code, set_rows};
+ghost use Rattle.calls.specs.Sets.{event_at, Holders, SecondCounted, kind_number, kind_code, set_rows};
 ghost use Rattle.calls.specs.Written.{Written};
 ghost use Rattle.calls.specs.Moment.{CanStart, Started, Released, Ahead, Past};
 
+use crate::bits::Places;
 use crate::held::{Head, Rows, Slots};
-use crate::{bits, held, settle};
-use rules::{Choice, Id};
+use crate::settle;
+use rules::{Choice, Id, Response};
 
 // The places whose events end, and those whose events begin, at a moment.
 #[derive(Clone, Copy)]
@@ -35,12 +37,10 @@ pub(crate) fn holders(slots: &Slots, n: usize) -> u64
     ensures { Holders n slots.now result }
 {
     let mut set = 0;
-    let mut i = 0;
-    while i < n {
-        if held::held_at(slots, i) != 0 {
+    for (i, h) in slots[..n].iter().enumerate() {
+        if h.held != 0 {
             set |= 1 << (i as u64);
         }
-        i += 1;
     }
     set
 }
@@ -56,54 +56,54 @@ fn add_row(rows: &mut Rows, at: usize, t: u64, id: Id, code: u8)
     rows[b + rules::ROW_CODE] = code;
 }
 
-// The kinds of rows, by their codes. An end gives 3, 8, 9 or 10.
-const ENDED: u8 = 3;
-
-const SUPERSEDED: u8 = 7;
-
-const STARTED: u8 = 2;
+// The kinds of rows.
+#[derive(Clone, Copy)]
+pub(crate) enum Kind {
+    Ended,
+    Superseded,
+    Started,
+}
 
 // Document 02, #102: the code of an end, by the choice.
-fn end_code(c: Choice) -> u8
-    ensures { result ≡ end_code c }
+fn end_code(c: Choice) -> Response
+    ensures { response_number result ≡ end_code c }
 {
     if !c.was_out {
-        return 3;
+        return Response::Completed;
     }
     if !c.was_in {
-        return 10;
+        return Response::NotTaken;
     }
     if c.out {
-        return 8;
+        return Response::PartlyOut;
     }
-    9
+    Response::PartlyIn
 }
 
 // The code of the event in slot i with a kind of row.
-fn code_at(slots: &Slots, i: usize, kind: u8) -> u8
+fn code_at(slots: &Slots, i: usize, kind: Kind) -> Response
     requires { i < most_events }
-    ensures { result ≡ kind_code kind (event_at slots.now i) }
+    ensures { response_number result ≡ kind_code (kind_number kind) (event_at slots.now i) }
 {
-    if kind == ENDED {
-        return end_code(held::choice_at(slots, i));
+    match kind {
+        Kind::Ended => end_code(slots[i].choice),
+        Kind::Superseded => Response::Superseded,
+        Kind::Started => Response::Started,
     }
-    kind
 }
 
 // The rows of one kind of the events at the places of a set; how many there are now.
-fn report(rows: &mut Rows, from: usize, t: u64, slots: &Slots, set: u64, kind: u8) -> usize
+fn report(rows: &mut Rows, from: usize, t: u64, slots: &Slots, set: u64, kind: Kind) -> usize
     requires { (length rows.old ≡ rows_size) × ((i : ℕ) → has set i ≡ true → i < most_events)
-        × (from + length (set_rows t kind slots.now set) ≤ most_rows) }
-    ensures { Written rows.old from rows.new result (set_rows t kind slots.now set) }
+        × (from + length (set_rows t (kind_number kind) slots.now set) ≤ most_rows) }
+    ensures { Written rows.old from rows.new result (set_rows t (kind_number kind) slots.now set) }
 {
+    // Kept: no `zip` with `from..`, as the place behind the last row is itself the result and would be counted beside it.
     let mut at = from;
-    let mut rest = set;
-    while rest != 0 {
-        let next = bits::lowest(rest);
-        let code = code_at(slots, next.place, kind);
-        add_row(rows, at, t, held::id_at(slots, next.place), code);
+    for place in Places::of(set) {
+        let code = code_at(slots, place, kind);
+        add_row(rows, at, t, slots[place].event.id, code.number());
         at += 1;
-        rest = next.rest;
     }
     at
 }
@@ -114,11 +114,8 @@ fn release(slots: &mut Slots, holding: u64, ended: u64) -> u64
     ensures { Released ended holding slots.old slots.new result }
 {
     let mut now = holding;
-    let mut rest = ended;
-    while rest != 0 {
-        let next = bits::lowest(rest);
-        now = settle::hold(slots, now, next.place, 0);
-        rest = next.rest;
+    for place in Places::of(ended) {
+        now = settle::hold(slots, now, place, 0);
     }
     now
 }
@@ -129,11 +126,8 @@ fn start(d: Head, slots: &mut Slots, holding: u64, starting: u64) -> u64
     ensures { Started d starting slots.old slots.new result }
 {
     let mut now = holding;
-    let mut rest = starting;
-    while rest != 0 {
-        let next = bits::lowest(rest);
-        now = settle::contend(d, slots, now, next.place);
-        rest = next.rest;
+    for place in Places::of(starting) {
+        now = settle::contend(d, slots, now, place);
     }
     now
 }
@@ -143,13 +137,10 @@ pub(crate) fn count(slots: &mut Slots, set: u64)
     requires { (length slots.old ≡ most_events) × ((i : ℕ) → has set i ≡ true → i < most_events) }
     ensures { SecondCounted set slots.old slots.new }
 {
-    let mut rest = set;
-    while rest != 0 {
-        let next = bits::lowest(rest);
-        let i = next.place;
-        let slot = slots[i];
-        slots[i] = held::with_second(slot);
-        rest = next.rest;
+    for place in Places::of(set) {
+        let choice = &mut slots[place].choice;
+        choice.was_in |= !choice.out;
+        choice.was_out |= choice.out;
     }
 }
 
@@ -167,7 +158,7 @@ pub(crate) fn moment(
     ensures { Past d slots.old slots.new t s rows.old rows.new result }
 {
     let ended = due.ending & s.holding;
-    let ends = report(rows, s.rows, t, slots, ended, ENDED);
+    let ends = report(rows, s.rows, t, slots, ended, Kind::Ended);
     let before = release(slots, s.holding, ended);
     let holding = start(d, slots, before, due.starting);
     let contenders = before | due.starting;
@@ -176,11 +167,18 @@ pub(crate) fn moment(
         ends,
         t,
         slots,
-        contenders ^ (contenders & holding),
-        SUPERSEDED,
+        contenders & !holding,
+        Kind::Superseded,
     );
-    let all = report(rows, losses, t, slots, due.starting & holding, STARTED);
-    count(slots, holding ^ (holding & s.counted));
+    let all = report(
+        rows,
+        losses,
+        t,
+        slots,
+        due.starting & holding,
+        Kind::Started,
+    );
+    count(slots, holding & !s.counted);
     Standing {
         holding,
         counted: s.counted | holding,

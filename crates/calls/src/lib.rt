@@ -6,8 +6,7 @@
 ghost use Rattle.std.specs.Prelude.{◌≡◌, []};
 ghost use Rattle.rules.specs.Records.{id_number};
 ghost use Rattle.rules.specs.Calls.{call, add_program, deliver, cancel, choose, set_clock, ask};
-ghost use Rattle.calls.specs.Slots.{InUse};
-ghost use Rattle.calls.specs.Answered.{outcome_of, refused_with, ByValue};
+ghost use Rattle.calls.specs.Answered.{outcome_of, refused_with};
 ghost use Rattle.calls.specs.Lines.{line_outcome, ran_of, run_outcome};
 ghost use Rattle.calls.specs.Whole.{WholeText};
 
@@ -22,24 +21,21 @@ mod lines;
 mod programs;
 mod reading;
 mod settle;
+mod sorted;
 
-use rules::{Answer, Event, Frame, Id, Line, Schedule};
+use held::SoundSchedule;
+use rules::{Answer, Event, Frame, Id, Line, Refusal, Schedule};
 
 // What a call returns.
+// Kept: a result beside the schedule and none with it inside, as a refused call hands the schedule back (clause `call`).
 #[derive(Clone, Copy)]
 pub struct Answered {
     pub answer: Answer,
     pub schedule: Schedule,
 }
 
-// What a call on slots returns: they stay with the caller.
-#[derive(Clone, Copy)]
-pub(crate) struct Acted {
-    pub(crate) answer: Answer,
-    pub(crate) head: held::Head,
-}
-
 // What a run over lines returns: how many bytes it wrote, or its refusal; how many bytes of the lines it took.
+// Kept: as `Answered` (clause `run_outcome`).
 #[derive(Clone, Copy)]
 pub struct Ran {
     pub answer: Answer,
@@ -48,39 +44,32 @@ pub struct Ran {
 }
 
 // A call that was refused leaves the schedule as it is.
-pub(crate) fn refused(s: Schedule, number: u8) -> Answered
-    ensures { result ≡ refused_with number s }
+pub(crate) fn refused(s: Schedule, refusal: Refusal) -> Answered
+    ensures { result ≡ refused_with refusal s }
 {
     Answered {
-        answer: Answer::Refused(number),
+        answer: Err(refusal),
         schedule: s,
     }
 }
 
-// A schedule by value from what a call on slots left.
-fn by_value(a: Acted, slots: &held::Slots) -> Answered
-    requires { InUse a.head.count slots.now }
-    ensures { ByValue a slots.now result }
-{
-    let answer = a.answer;
-    let head = a.head;
-    Answered {
-        answer,
-        schedule: held::put_together(head, slots),
-    }
-}
+// Kept: the six calls by value are a function each and not one that takes the call as a closure: what a closure does through a loan is said by `F.post`, longer
+// than the equation that each has.
+// Kept: the seven tests of soundness are no `TryFrom` with `?`, as a refused call hands the schedule back and so returns no `Result`.
 
 // Calls, add a program: code 0.
 pub fn add_program(s: Schedule, number: u8, primacy: u8, defaults: u32) -> Answered
     ensures { outcome_of result [] [] ≡ call s (add_program number primacy defaults) }
 {
     if !sound::is_sound(s) {
-        return refused(s, 2);
+        return refused(s, Refusal::BrokenRule);
     }
-    let mut slots = held::NO_SLOTS;
-    held::take_apart(s, &mut slots);
-    let done = programs::add_program(held::head_of(s), number, primacy, defaults);
-    by_value(done, &slots)
+    let mut s = SoundSchedule { schedule: s };
+    let answer = programs::add_program(&mut s, number, primacy, defaults);
+    Answered {
+        answer,
+        schedule: s.schedule,
+    }
 }
 
 // Calls, deliver an event: code 1 if it is new, 0 if it is held already with every field equal.
@@ -88,12 +77,14 @@ pub fn deliver(s: Schedule, e: Event) -> Answered
     ensures { outcome_of result [] [] ≡ call s (deliver e) }
 {
     if !sound::is_sound(s) {
-        return refused(s, 2);
+        return refused(s, Refusal::BrokenRule);
     }
-    let mut slots = held::NO_SLOTS;
-    held::take_apart(s, &mut slots);
-    let done = events::deliver(held::head_of(s), &mut slots, e);
-    by_value(done, &slots)
+    let mut s = SoundSchedule { schedule: s };
+    let answer = events::deliver(&mut s, e);
+    Answered {
+        answer,
+        schedule: s.schedule,
+    }
 }
 
 // Calls, cancel: code 6, or 0 if the event was cancelled before.
@@ -101,12 +92,14 @@ pub fn cancel(s: Schedule, id: Id) -> Answered
     ensures { outcome_of result [] [] ≡ call s (cancel (id_number id)) }
 {
     if !sound::is_sound(s) {
-        return refused(s, 2);
+        return refused(s, Refusal::BrokenRule);
     }
-    let mut slots = held::NO_SLOTS;
-    held::take_apart(s, &mut slots);
-    let done = events::cancel(held::head_of(s), &mut slots, id);
-    by_value(done, &slots)
+    let mut s = SoundSchedule { schedule: s };
+    let answer = events::cancel(&mut s, id);
+    Answered {
+        answer,
+        schedule: s.schedule,
+    }
 }
 
 // Document 02, #102, opt out (`out`) and opt in: code 4 or 5, or 0 if it repeats the present choice.
@@ -114,12 +107,14 @@ pub fn choose(s: Schedule, id: Id, out: bool) -> Answered
     ensures { outcome_of result [] [] ≡ call s (choose (id_number id) out) }
 {
     if !sound::is_sound(s) {
-        return refused(s, 2);
+        return refused(s, Refusal::BrokenRule);
     }
-    let mut slots = held::NO_SLOTS;
-    held::take_apart(s, &mut slots);
-    let done = events::choose(held::head_of(s), &mut slots, id, out);
-    by_value(done, &slots)
+    let mut s = SoundSchedule { schedule: s };
+    let answer = events::choose(&mut s, id, out);
+    Answered {
+        answer,
+        schedule: s.schedule,
+    }
 }
 
 // Calls, set the clock: the rows of the moments passed go into the buffer, and their count is the answer.
@@ -127,9 +122,9 @@ pub fn set_clock(s: Schedule, reading: u64, buffer: &mut [u8]) -> Answered
     ensures { outcome_of result buffer.new [] ≡ call s (set_clock reading buffer.old) }
 {
     if sound::is_sound(s) {
-        return reading::set_clock(s, reading, buffer);
+        return reading::set_clock(SoundSchedule { schedule: s }, reading, buffer);
     }
-    refused(s, 2)
+    refused(s, Refusal::BrokenRule)
 }
 
 // Calls, ask for a control: its holder if that one's user is in, else the program of its default, else nobody.
@@ -137,24 +132,24 @@ pub fn ask(s: Schedule, control: u8) -> Answered
     ensures { outcome_of result [] [] ≡ call s (ask control) }
 {
     if !sound::is_sound(s) {
-        return refused(s, 2);
+        return refused(s, Refusal::BrokenRule);
     }
-    let mut slots = held::NO_SLOTS;
-    held::take_apart(s, &mut slots);
-    let answer = programs::ask(held::head_of(s), &slots, control);
+    let s = SoundSchedule { schedule: s };
+    let answer = programs::ask(&s, control);
     Answered {
         answer,
-        schedule: s,
+        schedule: s.schedule,
     }
 }
 
 // Numbers given, 1. A line is decoded and its call made; the buffer is lent for the rows of a clock reading.
+// Kept: beside `act_on` of lines.rt. By value the lent buffer may be too short, 13, and the schedule goes back; in place neither happens.
 pub fn act(s: Schedule, line: &[u8], buffer: &mut [u8]) -> Answered
     ensures { outcome_of result buffer.new [] ≡ line_outcome s line.now buffer.old }
 {
     let decoded = frame::decode(line);
     let Line::Good(f) = decoded else {
-        return refused(s, 1);
+        return refused(s, Refusal::NoFrame);
     };
     match f {
         Frame::Event(e) => deliver(s, e),
@@ -174,10 +169,10 @@ pub fn run(s: Schedule, lines: &[u8], out: &mut [u8]) -> Ran
     ensures { ran_of result out.new ≡ run_outcome s lines.now out.old }
 {
     if sound::is_sound(s) {
-        return lines::run(s, lines, out);
+        return lines::run(SoundSchedule { schedule: s }, lines, out);
     }
     Ran {
-        answer: Answer::Refused(2),
+        answer: Err(Refusal::BrokenRule),
         read: 0,
         schedule: s,
     }

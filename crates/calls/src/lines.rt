@@ -1,32 +1,30 @@
-// Frames acted on, and lines found in a text, on sound slots.
-ghost use Rattle.std.specs.Prelude.{◌≡◌, ◌≤◌, true, length};
-ghost use Rattle.rules.specs.Sound.{sound};
+// Frames acted on, and lines found in a text, on a sound schedule.
+ghost use Rattle.std.specs.Prelude.{◌≡◌, ◌+◌, ◌≤◌, length};
+ghost use Rattle.rules.specs.Bytes.{rows_size};
+ghost use Rattle.rules.specs.Calls.{number_of, value_of};
+ghost use Rattle.text.specs.Texts.{most_text, number_told};
 ghost use Rattle.frame.specs.Ends.{ended_of};
-ghost use Rattle.calls.specs.Slots.{schedule_of, Lent};
-ghost use Rattle.calls.specs.Says.{ActsOn, CanSay, Says};
+ghost use Rattle.calls.specs.Says.{ActsOn, Says};
 ghost use Rattle.calls.specs.Lines.{IsNext, runs, ran_of, ran_into};
 
-use crate::held::{Head, NO_ROWS, NO_SLOTS, Rows, Slots};
-use crate::{Acted, Ran, events, held, programs, reading};
+use crate::held::{NO_ROWS, Rows, SoundSchedule};
+use crate::{Ran, events, programs, reading};
 use frame::Width;
-use rules::{Answer, Frame, Line, Schedule};
+use rules::{Answer, Frame, Line, Refusal, Reply};
 
 // Frames and image. The call of a frame; a clock reading writes its rows over the front of the buffer.
-fn act_on(d: Head, slots: &mut Slots, f: Frame, rows: &mut Rows) -> Acted
-    requires { Lent d slots.old rows.old }
-    ensures { ActsOn (schedule_of d slots.old) f result slots.new rows.new }
+fn act_on(s: &mut SoundSchedule, f: Frame, rows: &mut Rows) -> Answer
+    requires { length rows.old ≡ rows_size }
+    ensures { ActsOn s.old.schedule f result s.new.schedule rows.new }
 {
     match f {
-        Frame::Event(e) => events::deliver(d, slots, e),
-        Frame::Cancel(id) => events::cancel(d, slots, id),
-        Frame::Clock(t) => reading::pass(d, slots, t, rows),
-        Frame::Program(n, p, m) => programs::add_program(d, n, p, m),
-        Frame::Ask(c) => Acted {
-            answer: programs::ask(d, slots, c),
-            head: d,
-        },
-        Frame::OptOut(id) => events::choose(d, slots, id, true),
-        Frame::OptIn(id) => events::choose(d, slots, id, false),
+        Frame::Event(e) => events::deliver(s, e),
+        Frame::Cancel(id) => events::cancel(s, id),
+        Frame::Clock(t) => reading::pass(s, t, rows),
+        Frame::Program(n, p, m) => programs::add_program(s, n, p, m),
+        Frame::Ask(c) => programs::ask(s, c),
+        Frame::OptOut(id) => events::choose(s, id, true),
+        Frame::OptIn(id) => events::choose(s, id, false),
     }
 }
 
@@ -55,48 +53,36 @@ fn next_line(text: &[u8], from: usize) -> NextLine
     NextLine { end, line }
 }
 
-// What a line leaves besides the slots: the rest of the schedule, and the place behind its text.
-#[derive(Clone, Copy)]
-struct Telling {
-    head: Head,
-    behind: usize,
+// What was answered, a refusal as its number.
+fn numbered(answer: Answer) -> Result<Reply, u8>
+    ensures number { number_told result ≡ number_of answer }
+    ensures value { value_of result ≡ value_of answer }
+{
+    answer.map_err(|refusal| refusal.number())
 }
 
-// Frames and image, the program. Acts on what a line stands for and writes the line's text from `at` on.
-fn tell(
-    d: Head,
-    slots: &mut Slots,
-    line: Line,
-    rows: &mut Rows,
-    out: &mut [u8],
-    at: usize,
-) -> Telling
-    requires { CanSay d slots.old rows.old out.old at }
-    ensures { Says (schedule_of d slots.old) line out.old at result slots.new rows.new out.new }
+// Frames and image, the program. Acts on what a line stands for and writes the line's text from `at` on; the place behind it.
+fn tell(s: &mut SoundSchedule, line: Line, rows: &mut Rows, out: &mut [u8], at: usize) -> usize
+    requires { (length rows.old ≡ rows_size) × (at + most_text ≤ length out.old) }
+    ensures { Says s.old.schedule line out.old at result s.new.schedule rows.new out.new }
 {
     let Line::Good(f) = line else {
-        let behind = text::refused(out, at, 1);
-        return Telling { head: d, behind };
+        return text::refused(out, at, Refusal::NoFrame.number());
     };
-    let clock = d.clock;
-    let done = act_on(d, slots, f, rows);
-    let answer = done.answer;
-    let head = done.head;
-    let behind = text::told(out, at, clock, f, answer, rows);
-    Telling { head, behind }
+    let clock = s.schedule.clock;
+    let answer = act_on(s, f, rows);
+    text::told(out, at, clock, f, numbered(answer), rows)
 }
 
 // Line after line, as long as there is room for any text.
-pub(crate) fn run(s: Schedule, lines: &[u8], out: &mut [u8]) -> Ran
-    requires { sound s ≡ true }
-    ensures { ran_of result out.new ≡ ran_into (runs (length out.old) s (ended_of lines.now)) out.old }
+pub(crate) fn run(s: SoundSchedule, lines: &[u8], out: &mut [u8]) -> Ran
+    ensures { ran_of result out.new ≡ ran_into (runs (length out.old) s.schedule (ended_of lines.now)) out.old }
 {
-    let mut slots = NO_SLOTS;
-    held::take_apart(s, &mut slots);
-    let mut d = held::head_of(s);
+    let mut s = s;
     let mut rows = NO_ROWS;
     let mut from = 0;
     let mut at = 0;
+    // Kept: no `for`, as where the next line begins is where the one before ended.
     while from < lines.len() {
         let found = next_line(lines, from);
         let end = found.end;
@@ -106,16 +92,12 @@ pub(crate) fn run(s: Schedule, lines: &[u8], out: &mut [u8]) -> Ran
         if out.len() - at < text::MOST {
             break;
         }
-        let line = found.line;
-        let told = tell(d, &mut slots, line, &mut rows, out, at);
-        at = told.behind;
-        let next = told.head;
-        d = next;
+        at = tell(&mut s, found.line, &mut rows, out, at);
         from = end + 1;
     }
     Ran {
-        answer: Answer::Count(at),
+        answer: Ok(Reply::Count(at)),
         read: from,
-        schedule: held::put_together(d, &slots),
+        schedule: s.schedule,
     }
 }

@@ -1,141 +1,113 @@
 // Programs added, and questions: a control's holder or its default.
-ghost use Rattle.std.specs.Prelude.{◌≡◌, List, [], map, ℕ, ◌<◌, take, get_or};
-ghost use Rattle.rules.specs.Records.{most_events, most_controls};
-ghost use Rattle.rules.specs.Calls.{call, add_program, ask, value_of, governs, holder_in, best_of, best_default, default_for};
-ghost use Rattle.calls.specs.Slots.{entry_of, schedule_of, Ready};
-ghost use Rattle.calls.specs.Answered.{told, Tells, Acts};
-ghost use Rattle.calls.specs.Best.{ranked, carrying, CanLook};
+ghost use Rattle.std.specs.Prelude.{◌≡◌, ◌<◌};
+ghost use Rattle.rules.specs.Records.{most_controls};
+ghost use Rattle.rules.specs.Calls.{call, add_program, ask, reply_value, governs, holder_in, best_of, best_default, default_for};
+ghost use Rattle.calls.specs.Answered.{told};
+ghost use Rattle.calls.specs.Best.{ranked, carrying};
 
-use crate::held::{Head, Programs, Slots};
-use crate::{Acted, held, settle};
-use rules::{Answer, Primacy, Program, Schedule};
+use crate::held::{Programs, SoundSchedule};
+use crate::settle;
+use rules::{Answer, Entry, Primacy, Program, Refusal, Reply, Response, Schedule};
 
-// Numbers given, of adding a program, in checking order; then the program in its place. No slot is looked at.
-pub(crate) fn add_program(mut d: Head, number: u8, primacy: u8, defaults: u32) -> Acted
-    ensures { (w : List (List ℕ)) → Ready d w → Acts result w [] (call (schedule_of d w) (add_program number primacy defaults)) }
+// Numbers given, of adding a program, in checking order; then the program in its place.
+pub(crate) fn add_program(s: &mut SoundSchedule, number: u8, primacy: u8, defaults: u32) -> Answer
+    ensures { told result s.new.schedule ≡ call s.old.schedule (add_program number primacy defaults) }
 {
     if Program::LAST < number {
-        return Acted {
-            answer: Answer::Refused(3),
-            head: d,
-        };
+        return Err(Refusal::NoSuchProgram);
     }
     let at = number as usize;
-    let old = d.programs[at];
-    if old.added {
-        return Acted {
-            answer: Answer::Refused(4),
-            head: d,
-        };
+    if s.schedule.programs[at].added {
+        return Err(Refusal::AddedBefore);
     }
-    let Primacy::Usable = Primacy::of(primacy) else {
-        return Acted {
-            answer: Answer::Refused(5),
-            head: d,
-        };
+    let Primacy::Usable = Primacy::from(primacy) else {
+        return Err(Refusal::ReservedPrimacy);
     };
-    d.programs[at] = Program {
+    s.schedule.programs[at] = Program {
         added: true,
         primacy,
         defaults,
     };
-    Acted {
-        answer: Answer::Code(0),
-        head: d,
-    }
+    Ok(Reply::from(Response::Silent))
 }
 
-// The best default found so far: a program's number and primacy, if there is one.
+// A program with a default: its number and primacy.
 #[derive(Clone, Copy)]
-pub(crate) struct Best {
-    pub(crate) found: bool,
-    pub(crate) number: u8,
-    pub(crate) primacy: u8,
+struct Best {
+    number: u8,
+    primacy: u8,
 }
 
-// The better of a program and the best of those with larger numbers; of equal ones this one.
-fn better_default(p: Program, number: u8, control: u32, best: Best) -> Best
+// The better of a program, if it has a default, and the best of those with larger numbers; of equal ones this one.
+fn better_default(p: Program, number: u8, control: u32, best: Option<Best>) -> Option<Best>
     requires { control < most_controls }
     ensures { ranked result ≡ best_of (carrying control number p) (ranked best) }
 {
     let carried = settle::is_in(p.defaults, control);
-    let this = Best {
-        found: true,
-        number,
-        primacy: p.primacy,
-    };
     if !(p.added & carried) {
         return best;
     }
-    if !best.found {
-        return this;
+    if let Some(b) = best {
+        if b.primacy < p.primacy {
+            return best;
+        }
     }
-    if p.primacy <= best.primacy {
-        return this;
-    }
-    best
+    Some(Best {
+        number,
+        primacy: p.primacy,
+    })
 }
 
 // How many numbers of programs there are.
 const PROGRAMS: u8 = Program::LAST + 1;
 
 // Calls, ask: the program with the best primacy whose defaults carry the control.
-fn default_of(programs: Programs, control: u32) -> Answer
+fn default_of(programs: Programs, control: u32) -> Reply
     requires { control < most_controls }
-    ensures { Tells result (default_for (best_default control 0 programs)) }
+    ensures { reply_value result ≡ default_for (best_default control 0 programs) }
 {
-    let mut best = Best {
-        found: false,
-        number: 0,
-        primacy: 0,
-    };
-    let mut i = PROGRAMS;
-    while 0 < i {
-        i -= 1;
+    let mut best = None;
+    // Kept: no `enumerate`, as the number of a program is a `u8` that goes into the answer.
+    for i in (0..PROGRAMS).rev() {
         let p = programs[i as usize];
         best = better_default(p, i, control, best);
     }
-    if best.found {
-        return Answer::Default(best.number);
+    match best {
+        Some(b) => Reply::Default(b.number),
+        None => Reply::Nobody,
     }
-    Answer::Nobody
 }
 
-// Whether the event in a slot holds the control and its user is in.
-fn is_governor(slots: &Slots, i: usize, control: u32) -> bool
-    requires { (i < most_events) × (control < most_controls) }
-    ensures { result ≡ governs control (entry_of (get_or slots.now i [])) }
+// Whether an event holds the control and its user is in.
+fn is_governor(h: &Entry, control: u32) -> bool
+    requires { control < most_controls }
+    ensures { result ≡ governs control h.now }
 {
-    let choice = held::choice_at(slots, i);
-    settle::is_in(held::held_at(slots, i), control) & !choice.out
+    let choice = h.choice;
+    settle::is_in(h.held, control) & !choice.out
 }
 
-// Calls, ask: the event that holds the control if its user is in, else the other answer.
-fn holder_or(slots: &Slots, n: usize, control: u32, other: Answer) -> Answer
-    requires { CanLook control n slots.now other }
-    ensures { Tells result (holder_in control (map entry_of (take n slots.now)) (value_of other)) }
+// Calls, ask: the event that holds the control if its user is in, else the other reply.
+fn holder_or(events: &[Entry], control: u32, other: Reply) -> Reply
+    requires { control < most_controls }
+    ensures { reply_value result ≡ holder_in control events.now (reply_value other) }
 {
-    let mut i = 0;
-    while i < n {
-        if is_governor(slots, i, control) {
-            let id = held::id_at(slots, i);
-            return Answer::Holder(id);
+    for h in events {
+        if is_governor(h, control) {
+            return Reply::Holder(h.event.id);
         }
-        i += 1;
     }
     other
 }
 
 // Calls, ask for a control. Nothing changes.
-pub(crate) fn ask(d: Head, slots: &Slots, control: u8) -> Answer
-    requires { Ready d slots.now }
-    ensures { told result (schedule_of d slots.now) ≡ call (schedule_of d slots.now) (ask control) }
+pub(crate) fn ask(s: &SoundSchedule, control: u8) -> Answer
+    ensures { told result s.now.schedule ≡ call s.now.schedule (ask control) }
 {
     if Schedule::LAST_CONTROL < control {
-        return Answer::Refused(14);
+        return Err(Refusal::NoSuchControl);
     }
     let c = control as u32;
-    let programs = d.programs;
-    let other = default_of(programs, c);
-    holder_or(slots, d.count, c, other)
+    let other = default_of(s.schedule.programs, c);
+    Ok(holder_or(s.events(), c, other))
 }

@@ -1,15 +1,17 @@
 -- A line over what stands in a buffer, and one that does not fit.
 use mathlib.Core.Path.{◌≡◌, refl, sym, ap, ◌∙◌}
-use Prim.Native.Nat.{ℕ, ◌+◌, ◌-◌, ◌≤◌}
+use Prim.Native.Nat.{ℕ, zero, suc, ◌+◌, ◌-◌, ◌≤◌}
 use mathlib.Core.Bool.{Bool, true, false}
-use mathlib.Core.List.{List}
-use borrow.Author.Tests.{leb-true, leb-false, le-ltb, lt-ltb}
+use mathlib.Core.List.{List, [], ◌∷◌}
+use borrow.Author.Tests.{leb-true, leb-false, le-ltb, lt-ltb, eqb-true, eqb-false, eq-eqb, ne_eqb}
+use borrow.Table.Steps.{cases}
 use lib.Dec.{leb, eqb}
 use native.Mathlib.Omega.{arith}
-use lib.ListN.{length, length-append, length-drop}
+use lib.ListN.{length, take, replicate, length-append, length-drop}
+use lib.Pointwise.{pointwise}
 use lib.Seq.{length-take-le}
 use Rattle.rules.specs.Converted.{kind_digits, half_digits, widened, narrowed, Turned, turned_into}
-use Rattle.rules.specs.Lists.{over_at}
+use Rattle.rules.specs.Lists.{each, over_at}
 use Rattle.rules.specs.Calls.{count}
 use Rattle.convert.specs.Turns.{refused_line, written_at, turned_at}
 
@@ -36,6 +38,15 @@ widened_length l h = simp (length-append, length-drop) (omega (arith, length-tak
 pub narrowed_length : (l : List ℕ) → kind_digits + half_digits ≤ length l → length (narrowed l) ≡ length l - half_digits
 unfolding narrowed
 narrowed_length l h = simp (length-append, length-drop) (omega (arith, length-take-le kind_digits l (omega arith)))
+
+-- whether digits begin with zeros
+zero_first : (x : ℕ) → eqb 48 x ≡ eqb x 48
+zero_first x = cases (eqb x 48) (λ e. eq-eqb 48 x (sym (eqb-true x 48 e)) ∙ sym e) (λ e. ne_eqb 48 x (λ q. eqb-false x 48 e (sym q)) ∙ sym e)
+
+pub begins : (n : ℕ) (l : List ℕ) → n ≤ length l → pointwise eqb (replicate n 48) (take n l) ≡ each (λ c. eqb c 48) (take n l)
+begins zero l h = refl
+begins (suc n) [] h = absurd (omega arith)
+begins (suc n) (x ∷ l) h = rw (begins n l (omega arith), zero_first x) refl
 
 -- from the front of a buffer on
 pub from_front : (t : Turned) (out : List ℕ) → turned_at t 0 out ≡ turned_into t out

@@ -1,6 +1,7 @@
 -- Document 02, #105: a line turned to a width, into a buffer from a place on.
-use Rattle.std.specs.Prelude.{ℕ, ◌+◌, ◌≤◌, Bool, cond, List, leb, eqb, length, take, drop}
-use Rattle.rules.specs.declared.Answer.{Answer}
+use Rattle.std.specs.Prelude.{ℕ, ◌+◌, Bool, cond, List, leb, eqb, length, take, drop, Result}
+use Rattle.rules.specs.declared.Refusal.{Refusal}
+use Rattle.rules.specs.declared.Reply.{Reply}
 use Rattle.rules.specs.Lists.{over_at, each}
 use Rattle.rules.specs.Calls.{nothing, count, number_of, value_of}
 use Rattle.rules.specs.Converted.{kind_digits, half_digits, Turned, lengthened, shortened, LineOutcome}
@@ -18,7 +19,7 @@ turned_to Short l = shortened l
 turned_to Long l = lengthened l
 
 -- an answer, and what a buffer held then
-abbrev pub answered : Answer → List ℕ → LineOutcome
+abbrev pub answered : Result Reply Refusal → List ℕ → LineOutcome
 answered a bytes = record { number = number_of a; value = value_of a; bytes = bytes }
 
 -- a refused line leaves the buffer as it was
@@ -36,8 +37,3 @@ turned_at t at out = cond (eqb t.number 0) (written_at t.line at out) (refused_l
 -- whether the digits of an id's upper half are all 0
 unfoldable pub upper_zero : List ℕ → Bool
 upper_zero l = each (λ c. eqb c 48) (take half_digits (drop kind_digits l))
-
--- the line of a frame with an id, which is as long as its kind and one more, and no longer than the longest
-pub record OfId (least : ℕ) (l : List ℕ) : Type 0 where
-  pub long : least ≤ length l
-  pub short : length l ≤ 84

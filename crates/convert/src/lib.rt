@@ -2,13 +2,13 @@
 
 #![tactic(auto)]
 
-ghost use Rattle.std.specs.Prelude.{◌≡◌, ◌+◌, cond};
+ghost use Rattle.std.specs.Prelude.{◌≡◌, ◌+◌, ◌^◌, ◌<◌, ◌≤◌, ◌++◌, length, cond};
 ghost use Rattle.rules.specs.Converted.{kind_digits, half_digits, widened, narrowed, lengthened, shortened, turned_into};
-ghost use Rattle.convert.specs.Turns.{other_than, turned_to, answered, refused_line, written_at, turned_at, upper_zero, OfId};
+ghost use Rattle.convert.specs.Turns.{other_than, turned_to, answered, refused_line, written_at, turned_at, upper_zero};
 ghost use Rattle.convert.specs.Recorded.{Conversions};
 
 use frame::{Shape, Width};
-use rules::{Answer, Id};
+use rules::{Answer, Id, Refusal, Reply};
 
 // Digits of a line's kind, and of half an id.
 const KIND: usize = 2;
@@ -28,62 +28,47 @@ pub fn other_than(to: Width) -> Width
     }
 }
 
-// A line that passes unchanged.
-fn pass(line: &[u8], out: &mut [u8], at: usize) -> Answer
-    ensures { answered result out.new ≡ written_at line.now at out.old }
+// Three parts of a line, one behind the other, over what stands in `out` from `at` on; 13 if there is no room for them.
+fn write(out: &mut [u8], at: usize, kind: &[u8], zeros: &[u8], rest: &[u8]) -> Answer
+    requires { length kind.now + length zeros.now + length rest.now < 2 ^ 64 }
+    ensures { answered result out.new ≡ written_at (kind.now ++ (zeros.now ++ rest.now)) at out.old }
 {
-    let n = line.len();
+    let n = kind.len() + zeros.len() + rest.len();
     if !octets::has_room(out.len(), at, n) {
-        return Answer::Refused(13);
+        return Err(Refusal::NoRoom);
     }
-    octets::copy(out, at, line, n);
-    Answer::Count(n)
+    octets::copy(out, at, kind, kind.len());
+    octets::copy(out, at + kind.len(), zeros, zeros.len());
+    octets::copy(out, at + kind.len() + zeros.len(), rest, rest.len());
+    Ok(Reply::Count(n))
 }
 
 // A line with an id, the digits of a zero upper half behind its kind.
 fn widen(line: &[u8], out: &mut [u8], at: usize) -> Answer
-    requires { OfId kind_digits line.now }
+    requires { kind_digits ≤ length line.now }
     ensures { answered result out.new ≡ written_at (widened line.now) at out.old }
 {
-    let n = line.len() + HALF;
-    if !octets::has_room(out.len(), at, n) {
-        return Answer::Refused(13);
-    }
-    octets::copy(out, at, line, KIND);
-    octets::copy(out, at + KIND, &ZEROS, HALF);
-    octets::copy(out, at + KIND + HALF, &line[KIND..], line.len() - KIND);
-    Answer::Count(n)
+    let (kind, id) = line.split_at(KIND);
+    write(out, at, kind, &ZEROS, id)
 }
 
 // Whether the digits of an id's upper half are all 0.
 fn upper_is_zero(line: &[u8]) -> bool
-    requires { OfId (kind_digits + half_digits) line.now }
+    requires { kind_digits + half_digits ≤ length line.now }
     ensures { result ≡ upper_zero line.now }
 {
-    let mut zero = true;
-    let mut i = 0;
-    while i < HALF {
-        zero = zero & (line[KIND + i] == b'0');
-        i += 1;
-    }
-    zero
+    line[KIND..].starts_with(&ZEROS)
 }
 
 // A line with an id, without the digits of its upper half; 15 if these are not all 0.
 fn narrow(line: &[u8], out: &mut [u8], at: usize) -> Answer
-    requires { OfId (kind_digits + half_digits) line.now }
+    requires { kind_digits + half_digits ≤ length line.now }
     ensures { answered result out.new ≡ cond (upper_zero line.now) (written_at (narrowed line.now) at out.old) (refused_line 15 out.old) }
 {
     if !upper_is_zero(line) {
-        return Answer::Refused(15);
+        return Err(Refusal::UpperHalf);
     }
-    let n = line.len() - HALF;
-    if !octets::has_room(out.len(), at, n) {
-        return Answer::Refused(13);
-    }
-    octets::copy(out, at, line, KIND);
-    octets::copy(out, at + KIND, &line[KIND + HALF..], n - KIND);
-    Answer::Count(n)
+    write(out, at, &line[..KIND], &ZEROS[..0], &line[KIND + HALF..])
 }
 
 // Document 02, #105. A line turned to a width, over what stands in `out` from `at` on: how long it became, or 1, 15, 13 and `out` as it was.
@@ -91,14 +76,16 @@ pub fn turn(to: Width, line: &[u8], out: &mut [u8], at: usize) -> Answer
     ensures { answered result out.new ≡ turned_at (turned_to to line.now) at out.old }
 {
     match frame::shape_of(other_than(to), line) {
-        Shape::NoFrame => Answer::Refused(1),
-        Shape::WithoutId => pass(line, out, at),
+        Shape::NoFrame => Err(Refusal::NoFrame),
+        Shape::WithoutId => write(out, at, line, &ZEROS[..0], &ZEROS[..0]),
         Shape::WithId => match to {
             Width::Short => narrow(line, out, at),
             Width::Long => widen(line, out, at),
         },
     }
 }
+
+// Kept: a function each way beside `turn`, as the documents name both.
 
 // Document 02, #105. A line with ids of 64 bits becomes one with ids of 128 bits, over the front of `out`: how long it became, or 1, 13 and `out` as it was.
 pub fn lengthen(line: &[u8], out: &mut [u8]) -> Answer

@@ -1,6 +1,6 @@
 -- Lines one after the other: what is known before each, and what a line adds.
 use mathlib.Core.Path.{◌≡◌, refl, sym, ap, ◌∙◌}
-use Prim.Native.Nat.{ℕ, suc, ◌+◌, ◌-◌, ◌<◌, ◌≤◌}
+use Prim.Native.Nat.{ℕ, suc, ◌+◌, ◌<◌, ◌≤◌}
 use mathlib.Core.List.{List, [], ◌∷◌, ◌++◌, append_assoc, append-nil}
 use native.Mathlib.Omega.{arith}
 use borrow.Author.Tests.{eqb-true, eqb-false}
@@ -20,28 +20,26 @@ use Rattle.frame.proofs.Ends.{ended_first, ended_none, lines_first, up_to_within
 use Rattle.convert.specs.Turns.{turned_to}
 use Rattle.input.specs.Kept.{kept}
 use Rattle.input.proofs.Kept.{kept_count, kept_front}
+use Rattle.text.specs.Texts.{Stands}
 use Rattle.converter.specs.declared.Told.{Told}
 use Rattle.converter.specs.declared.Printed.{Printed}
 use Rattle.converter.proofs.Telling.{text_short}
-use Rattle.converter.specs.Pieces.{most_turned, texts_of, Tells, Takes, block_size, CanPrint, PrintsSome}
+use Rattle.converter.specs.Pieces.{most_turned, texts_of, Tells, Unended, Takes, block_size, CanPrint, PrintsSome}
 
 -- one line more is done
-module _ {piece : List ℕ} {from : ℕ} {done : List (List ℕ)} (t : Takes piece from done) (end : ℕ) (is_end_lem : end ≡ from + up_to (drop from piece)) (h : end < length piece) where
-  abbrev l : List ℕ
-  l = take (end - from) (drop from piece)
-
+module _ {piece : List ℕ} {from : ℕ} {done : List (List ℕ)} (t : Takes piece from done) (end : ℕ) (is_end_lem : end ≡ up_to (drop from piece)) (h : end < length (drop from piece)) where
   long : up_to (drop from piece) < length (drop from piece)
-  long = omega (arith, length-drop from piece)
+  long = omega arith
 
-  size : up_to (drop from piece) ≡ end - from
+  size : up_to (drop from piece) ≡ end
   size = omega arith
 
-  next : from + suc (up_to (drop from piece)) ≡ end + 1
+  next : from + suc (up_to (drop from piece)) ≡ from + (end + 1)
   next = omega arith
 
-  pub takes_more : Takes piece (end + 1) (done ++ (l ∷ []))
+  pub takes_more : Takes piece (from + (end + 1)) (done ++ (take end (drop from piece) ∷ []))
   takes_more = record {
-    within = omega arith;
+    within = omega (arith, length-drop from piece);
     ended = t.ended ∙ rw (ended_first (drop from piece) long, drop-drop, next, size, append_assoc);
     lines = λ after. t.lines after ∙ rw (lines_first (drop from piece) after long, drop-drop, next, size, append_assoc);
   }
@@ -70,19 +68,19 @@ behind_block : (blocks : List ℕ) (n r at : ℕ) (new newer : List ℕ) → n +
 behind_block blocks n r at new newer e front = rw (append_assoc, front, ← take-add n r new, e)
 
 -- up to `from` lines are done: their texts are blocks and then what is still to be written, behind what was still to be written before
-pub record Sent (to : Width) (piece : List ℕ) (pending : ℕ) (old : List ℕ) (from at : ℕ) (new : List ℕ) : Type 0 where
+pub record Sent (to : Width) (piece before : List ℕ) (from at : ℕ) (new : List ℕ) : Type 0 where
   pub done : List (List ℕ)
   pub takes : Takes piece from done
   pub blocks : List ℕ
-  pub texts : blocks ++ take at new ≡ take pending old ++ texts_of to done
+  pub texts : blocks ++ take at new ≡ before ++ texts_of to done
 
-pub sent_none : (to : Width) (piece : List ℕ) (pending : ℕ) (old : List ℕ) → Sent to piece pending old 0 pending old
+pub sent_none : (to : Width) (piece : List ℕ) (pending : ℕ) (old : List ℕ) → Sent to piece (take pending old) 0 pending old
 unfolding flat
 sent_none to piece pending old = record { done = []; takes = takes_none piece; blocks = []; texts = sym (append-nil (take pending old)) }
 
-module _ {to : Width} {piece : List ℕ} {pending : ℕ} {old : List ℕ} {from at : ℕ} {new : List ℕ} (s : Sent to piece pending old from at new) where
+module _ {to : Width} {piece before : List ℕ} {from at : ℕ} {new : List ℕ} (s : Sent to piece before from at new) where
   -- some lines more
-  pub sent_more : {rest newer : List ℕ} {r : Printed} → rest ≡ drop from piece → PrintsSome to rest at new r newer → Sent to piece pending old (from + r.read) r.pending newer
+  pub sent_more : {rest newer : List ℕ} {r : Printed} → rest ≡ drop from piece → PrintsSome to rest at new r newer → Sent to piece before (from + r.read) r.pending newer
   sent_more {rest} {newer} {r} e p = record {
     done = s.done ++ p.done;
     takes = takes_then s.takes e p.takes;
@@ -92,7 +90,7 @@ module _ {to : Width} {piece : List ℕ} {pending : ℕ} {old : List ℕ} {from 
   }
 
   -- a block is written, and what is behind it goes to the front
-  pub sent_block : {newer : List ℕ} {r : ℕ} → block_size ≤ at → at < block_size + most_turned → at ≤ length new → (r, newer) ≡ kept block_size at new → (r < block_size) × Sent to piece pending old from r newer
+  pub sent_block : {newer : List ℕ} {r : ℕ} → block_size ≤ at → at < block_size + most_turned → at ≤ length new → (r, newer) ≡ kept block_size at new → (r < block_size) × Sent to piece before from r newer
   sent_block {newer} {r} h few there k =
       let size : block_size + r ≡ at = omega (arith, kept_count block_size at new h there k) in (
         omega arith,
@@ -105,7 +103,7 @@ module _ {to : Width} {piece : List ℕ} {pending : ℕ} {old : List ℕ} {from 
       )
 
   -- no line that has ended is left
-  pub sent_all : ended_of (drop from piece) ≡ [] → s.blocks ++ take at new ≡ take pending old ++ texts_of to (ended_of piece)
+  pub sent_all : ended_of (drop from piece) ≡ [] → s.blocks ++ take at new ≡ before ++ texts_of to (ended_of piece)
   sent_all none = rw (s.takes.ended, none, append-nil) s.texts
 
 -- before the line at `from`: behind what was still to be written stand the texts of the lines before it, and before the first line there is none
@@ -142,33 +140,27 @@ module _ {to : Width} {piece : List ℕ} {pending : ℕ} {old : List ℕ} {from 
       some : block_size ≤ at → 0 < from
       some h = cases (eqb from 0) (λ e. absurd (omega (arith, p.first (eqb-true from 0 e), can.few))) (λ e. omega (arith, eqb-false from 0 e))
 
-  -- no line that has ended is left
-  pub printed_past : length piece ≤ from → PrintsSome to piece pending old (record { read = from; pending = at }) new
-  printed_past h = printed refl (λ few. ended_none (drop from piece) (omega (arith, up_to_within (drop from piece), length-drop from piece)))
-
   -- there is a block
   pub printed_block : block_size ≤ at → PrintsSome to piece pending old (record { read = from; pending = at }) new
   printed_block h = printed refl (λ few. absurd (omega arith))
 
-  module _ {r : Told} {newer : List ℕ} (t : Tells to piece from new at r newer) where
+  module _ {rest newer : List ℕ} (e : rest ≡ drop from piece) where
     -- the line has not ended
-    pub printed_end : length piece ≤ r.end → PrintsSome to piece pending old (record { read = from; pending = at }) newer
-    printed_end h =
-        printed
-        (rw t.stands.is (take_at (take at new) _ at (length-take-le at new (omega (arith, printing_size, p.fits, can.room)))))
-        (λ few. ended_none (drop from piece) (omega (arith, up_to_within (drop from piece), length-drop from piece, t.end)))
+    pub printed_end : Unended rest new at newer → PrintsSome to piece pending old (record { read = from; pending = at }) newer
+    printed_end u = printed u.front (λ few. ended_none (drop from piece) (omega (arith, up_to_within (drop from piece), rw e at u.past)))
 
-    pub printing_more : r.end < length piece → at < block_size → Printing to piece pending old (r.end + 1) r.behind newer
+    pub printing_more : {r : Told} → Tells to rest new at newer r → at < block_size → Printing to piece pending old (from + (r.end + 1)) r.behind newer
     unfolding flat
-    printing_more h few =
-        let line = take (r.end - from) (drop from piece) in
+    printing_more {r} t few =
+        let line = take r.end (drop from piece) in
         let texts = texts_of to p.done in
         let text = turned_text (turned_to to line) in
         let all : texts_of to (p.done ++ (line ∷ [])) ≡ texts ++ text = flat_append (λ l. turned_text (turned_to to l)) p.done (line ∷ []) ∙ ap (◌++◌ texts) (append-nil text) in
-        let put = rw (t.is h) at t.stands in
+        let put : Stands new at text newer r.behind = rw e at t.stands in
+        let more = takes_more p.takes r.end (rw e at t.end) (rw e at t.within) in
         record {
           done = p.done ++ (line ∷ []);
-          takes = takes_more p.takes r.end t.end h;
+          takes = more;
           size = put.end ∙ rw all (simp length-append (omega (arith, p.size)));
           fits = omega (arith, put.end, text_short to line);
           stands = put.is ∙ rw (all, p.stands, p.size) (over_then pending texts text old (omega (arith, can.few, can.room)));

@@ -7,10 +7,13 @@ use native.Mathlib.Omega.{arith}
 use borrow.Author.Tests.{eqb-true, le-leb}
 use lib.Dec.{eqb}
 use lib.ListN.{length, take, length-append}
-use Rattle.rules.specs.declared.Answer.{Answer}
+use Rattle.std.specs.Prelude.{Result, Ok, Err}
+use Rattle.rules.specs.declared.Refusal.{Refusal}
+use Rattle.rules.specs.declared.Reply.{Reply}
 use Rattle.rules.specs.declared.Line.{Line}
 use Rattle.rules.specs.declared.Line.TheVariants.{Good, Bad}
 use Rattle.rules.specs.Lists.{over_at}
+use Rattle.rules.proofs.FaceLaws.{some_number}
 use Rattle.rules.specs.Calls.{count, number_of, value_of, counted}
 use Rattle.rules.specs.Frames.{line_in}
 use Rattle.rules.specs.Printed.{most_digits, line_feed}
@@ -25,6 +28,11 @@ use Rattle.text.proofs.Printing.{decimal_length}
 use Rattle.convert.specs.Turns.{other_than, turned_to, answered, refused_line, written_at, turned_at}
 use Rattle.convert.proofs.Shapes.{turned_bad, turned_short}
 use Rattle.converter.specs.Pieces.{most_turned, end_text, end_at}
+
+-- where a line ends, by the number of its answer; one refusal alone has number 1
+ends_at : (a : Result Reply Refusal) (at : ℕ) → end_at a at ≡ cond (eqb (number_of a) 0) (at + counted (value_of a)) at
+ends_at (Ok r) at = refl
+ends_at (Err e) at = rw (some_number e)
 
 -- a line was turned where there is room for any text
 module _ (to : Width) (l : List ℕ) (at : ℕ) (out : List ℕ) (room : at + most_turned ≤ length out) where
@@ -43,7 +51,7 @@ module _ (to : Width) (l : List ℕ) (at : ℕ) (out : List ℕ) (room : at + mo
       by true e = rw (e, le-leb (at + length t.line) (length out) (omega (arith, turned_short to l (eqb-true t.number 0 e))))
       by false e = rw e
 
-  module _ (answer : Answer) {bytes : List ℕ} (turned : answered answer bytes ≡ turned_at t at out) where
+  module _ (answer : Result Reply Refusal) {bytes : List ℕ} (turned : answered answer bytes ≡ turned_at t at out) where
     is : answered answer bytes ≡ outcome
     is = turned ∙ fits
 
@@ -65,20 +73,22 @@ module _ (to : Width) (l : List ℕ) (at : ℕ) (out : List ℕ) (room : at + mo
         by false e = omega (arith, rw e at n)
 
     -- with its end the text stands there
-    pub told_text : {number n : ℕ} → number ≡ number_of answer → n ≡ counted (value_of answer) → {new : List ℕ} {behind : ℕ} → Stands bytes (end_at number n at) (end_text number) new behind
-        → Stands out at (turned_text t) new behind
-    told_text p q {new} {behind} s = by (eqb t.number 0) refl
+    pub told_text : {new : List ℕ} {behind : ℕ} → Stands bytes (end_at answer at) (end_text (number_of answer)) new behind → Stands out at (turned_text t) new behind
+    told_text {new} {behind} r = by (eqb t.number 0) refl
       where
+        there : Stands bytes (cond (eqb (number_of answer) 0) (at + counted (value_of answer)) at) (end_text (number_of answer)) new behind
+        there = rw (← ends_at answer at) r
+
         by : (x : Bool) → eqb t.number 0 ≡ x → Stands out at (turned_text t) new behind
         by true e =
             let o : answered answer bytes ≡ record { number = 0; value = count (length t.line); bytes = over_at at t.line out } = is ∙ rw e in
             let n = ap (λ (o : LineOutcome). counted o.value) o in
             let b = ap (λ (o : LineOutcome). o.bytes) o in
-            let v = rw (p, q, told_number, e, n, b) at s in
+            let v = rw (told_number, e, n, b) at there in
             rw e (record { end = v.end ∙ simp length-append (omega arith); is = v.is ∙ over_then at t.line line_feed out (omega arith) })
         by false e =
             let o : answered answer bytes ≡ refused_line t.number out = is ∙ rw e in
-            rw e (rw (p, told_number, e, ap (λ (o : LineOutcome). o.bytes) o) at s)
+            rw e (rw (told_number, e, ap (λ (o : LineOutcome). o.bytes) o) at there)
 
 -- no text is longer
 pub text_short : (to : Width) (l : List ℕ) → length (turned_text (turned_to to l)) ≤ most_turned

@@ -3,35 +3,44 @@
 
 #![tactic(auto)]
 
-ghost use Rattle.std.specs.Prelude.{◌≡◌, ◌+◌, length};
+ghost use Rattle.std.specs.Prelude.{◌≡◌, eqb, ℕ, ◌+◌, ◌<◌, ◌≤◌, List, [], length, take, MatchOption, MatchResult};
+ghost use Rattle.rules.specs.Calls.{number_of};
 ghost use Rattle.text.specs.Texts.{Stands};
-ghost use Rattle.input.specs.Kept.{buffer_size};
-ghost use Rattle.converter.specs.Pieces.{most_turned, block_size, end_at, end_text, CanEnd, CanTell, Tells, CanPrint, PrintsSome, Leaves, CanGoOn, Rests};
+ghost use Rattle.converter.specs.Pieces.{most_turned, block_size, end_at, end_text, CanEnd, Tells, Unended, CanPrint, PrintsSome, Leaves};
 ghost use Rattle.converter.specs.Cut.{CutLines};
 
 use frame::Width;
+use input::Lines;
+use rules::{Answer, Refusal};
 use std::io::{Read, Write};
+use std::marker::Model;
 
 // Room for the text of any line: a turned line and its line feed. The text of a refusal is shorter.
 const MOST: usize = frame::LONGEST_LINE + 1;
 
-// The input is read in pieces of up to so many bytes.
-const BUFFER: usize = 65536;
-
 // The output is written in blocks of whole pages: a system takes these in less time than parts of pages.
 const BLOCK: usize = 65536;
 
-// Ends the text of a line: the line feed behind n bytes of a turned one, or its refusal. The place behind it.
-fn end_text(number: u8, n: usize, out: &mut [u8], at: usize) -> usize
-    requires { CanEnd n at out.old }
-    ensures { Stands out.old (end_at number n at) (end_text number) out.new result }
+// Ends the text of a line: the line feed behind a turned one, or the text of its refusal. The place behind it.
+fn end_text(turned: Answer, out: &mut [u8], at: usize) -> usize
+    requires { CanEnd turned at out.old }
+    ensures { Stands out.old (end_at turned at) (end_text (number_of turned)) out.new result }
 {
-    if number == 0 {
-        let end = at + n;
-        out[end] = b'\n';
-        return end + 1;
+    match turned {
+        Ok(reply) => {
+            let end = at + reply.count();
+            out[end] = b'\n';
+            end + 1
+        }
+        Err(refusal) => text::refused(out, at, refusal.number()),
     }
-    text::refused(out, at, number)
+}
+
+// Whether a line is refused because it is no frame.
+fn is_no_frame(turned: Answer) -> bool
+    ensures { result ≡ eqb (number_of turned) 1 }
+{
+    turned == Err(Refusal::NoFrame)
 }
 
 // Where a line ends, and the place behind its text.
@@ -41,25 +50,21 @@ struct Told {
     behind: usize,
 }
 
-// Turns the line that begins at `from`, and writes its text from `at` on. A frame's kind tells where its line ends, so only a line that is no frame is
-// searched for its line feed. A line that has not ended may leave a text, which does not count.
-fn tell(to: Width, text: &[u8], from: usize, out: &mut [u8], at: usize) -> Told
-    requires { CanTell text.now from out.old at }
-    ensures { Tells to text.now from out.old at result out.new }
+// Turns the first line, and writes its text from `at` on; what it writes of a line that has not ended does not count. A frame's kind tells where its line ends, so
+// only a line that is no frame is searched for its line feed.
+fn tell(to: Width, lines: &[u8], out: &mut [u8], at: usize) -> Option<Told>
+    requires { at + most_turned ≤ length out.old }
+    ensures { MatchOption result (Unended lines.now out.old at out.new) (Tells to lines.now out.old at out.new) }
 {
-    let likely = from + frame::likely_end(convert::other_than(to), &text[from..]);
-    let answer = convert::turn(to, &text[from..likely], out, at);
-    let number = answer.number();
-    let behind = end_text(number, answer.count(), out, at);
-    // Only a line that is no frame is refused with 1.
-    if number != 1 {
-        return Told {
-            end: likely,
-            behind,
-        };
-    }
-    let end = from + frame::line_end(&text[from..]);
-    Told { end, behind }
+    let likely = frame::likely_end(convert::other_than(to), lines);
+    let turned = convert::turn(to, &lines[..likely], out, at);
+    let behind = end_text(turned, out, at);
+    let end = if is_no_frame(turned) {
+        frame::line_end(lines)
+    } else {
+        likely
+    };
+    (end < lines.len()).then_some(Told { end, behind })
 }
 
 // How many bytes of a piece were taken, and how many bytes of texts are still to be written.
@@ -76,15 +81,12 @@ fn print_some(to: Width, piece: &[u8], out: &mut [u8], pending: usize) -> Printe
 {
     let mut from = 0;
     let mut at = pending;
-    while from < piece.len() {
-        if BLOCK <= at {
+    // Kept: no `for`, as where the next line begins is where the one before ended.
+    while at < BLOCK {
+        let Some(told) = tell(to, &piece[from..], out, at) else {
             break;
-        }
-        let told = tell(to, piece, from, out, at);
-        if told.end == piece.len() {
-            break;
-        }
-        from = told.end + 1;
+        };
+        from += told.end + 1;
         at = told.behind;
     }
     Printed {
@@ -93,136 +95,88 @@ fn print_some(to: Width, piece: &[u8], out: &mut [u8], pending: usize) -> Printe
     }
 }
 
-// What the lines of a piece left: how many bytes they were, how many bytes of texts are still to be written, and whether the others could be.
-#[derive(Clone, Copy)]
-struct Piece {
-    read: usize,
-    pending: usize,
-    written: bool,
+// The texts that are still to be written, at the front of a buffer with room for a block and one text more.
+#[derive(Drop)]
+struct Output {
+    buffer: [u8; BLOCK + MOST],
+    end: usize,
 }
 
-// Turns all lines that end in a piece, and writes their texts, up to what makes no block. The bytes that it leaves go on where the texts of these lines stop.
-fn print_lines(
-    writer: &mut impl Write,
-    to: Width,
-    piece: &[u8],
-    out: &mut [u8],
-    pending: usize,
-) -> Piece
-    requires { CanPrint pending out.old }
-    ensures { Leaves to piece.now pending out.old result out.new }
-{
-    let mut from = 0;
-    let mut at = pending;
-    loop {
-        let some = print_some(to, &piece[from..], out, at);
-        from += some.read;
-        at = some.pending;
-        if at < BLOCK {
-            return Piece {
-                read: from,
-                pending: at,
-                written: true,
-            };
+impl Model for Output {
+    ghost Value = { List ℕ };
+
+    ghost view = { λ o. take o.end o.buffer };
+
+    ghost invariant = { λ o. o.end < block_size };
+}
+
+impl Output {
+    fn new() -> Output
+        ensures { result ≡ [] }
+    {
+        Output {
+            buffer: [0; BLOCK + MOST],
+            end: 0,
         }
-        if writer.write_all(&out[..BLOCK]).is_err() {
-            return Piece {
-                read: from,
-                pending: 0,
-                written: false,
-            };
+    }
+
+    // Turns all lines that end in a piece, and writes their texts, up to what makes no block. How many bytes these lines were: the bytes behind them go on where
+    // the texts of these lines stop. In an error so many bytes were taken, but a block could not be written: no text is left.
+    fn print_lines(
+        &mut self,
+        writer: &mut impl Write,
+        to: Width,
+        piece: &[u8],
+    ) -> Result<usize, usize>
+        ensures { MatchResult result (Leaves to piece.now self.old self.new) (λ read. (read ≤ length piece.now) × (self.new ≡ [])) }
+    {
+        let mut from = 0;
+        // Kept: no `for`, as where the next block's lines begin is where those of the one before ended.
+        loop {
+            let some = print_some(to, &piece[from..], &mut self.buffer, self.end);
+            from += some.read;
+            if some.pending < BLOCK {
+                self.end = some.pending;
+                return Ok(from);
+            }
+            if writer.write_all(&self.buffer[..BLOCK]).is_err() {
+                self.end = 0;
+                return Err(from);
+            }
+            self.end = input::keep(&mut self.buffer, BLOCK, some.pending);
         }
-        at = input::keep(out, BLOCK, at);
+    }
+
+    // Kept: no one type with `Input` of crates/input: only `new` and this method would be shared, and the invariants differ: behind these texts there is room
+    // for one more.
+    fn rest(&self) -> &[u8]
+        ensures { result.now ≡ self.now }
+    {
+        &self.buffer[..self.end]
     }
 }
 
-// How it goes on after a piece of input: with how much of a line, with how many bytes of texts, and whether at all.
-#[derive(Clone, Copy)]
-struct Rest {
-    kept: usize,
-    pending: usize,
-    more: bool,
-}
-
-// Reads a piece behind what is kept of a line. No byte more is the end of the input, and so is a read that fails.
-fn take_turn(
-    reader: &mut impl Read,
-    writer: &mut impl Write,
+// Lines turned to a width.
+#[derive(Drop)]
+struct Converter {
     to: Width,
-    kept: usize,
-    buffer: &mut [u8],
-    pending: usize,
-    out: &mut [u8],
-) -> Rest
-    requires { CanGoOn kept buffer.old pending out.old }
-    ensures { Rests result }
-{
-    let end = kept + reader.read(&mut buffer[kept..]).unwrap_or(0);
-    if end == kept {
-        return Rest {
-            kept,
-            pending,
-            more: false,
-        };
-    }
-    let piece = print_lines(writer, to, &buffer[..end], out, pending);
-    Rest {
-        kept: input::keep(buffer, piece.read, end),
-        pending: piece.pending,
-        more: piece.written,
+    output: Output,
+}
+
+impl Lines for Converter {
+    fn print(&mut self, writer: &mut impl Write, piece: &[u8]) -> Result<usize, usize> {
+        self.output.print_lines(writer, self.to, piece)
     }
 }
 
-// The last line may lack its line feed, and the last block is a part of one.
-fn finish(
-    writer: &mut impl Write,
-    to: Width,
-    kept: usize,
-    buffer: &mut [u8],
-    pending: usize,
-    out: &mut [u8],
-)
-    requires { CanGoOn kept buffer.old pending out.old }
-{
-    if kept == 0 {
-        let _ = writer.write_all(&out[..pending]);
-        return;
-    }
-    buffer[kept] = b'\n';
-    let end = kept + 1;
-    let last = print_lines(writer, to, &buffer[..end], out, pending);
-    let n = last.pending;
-    let _ = writer.write_all(&out[..n]);
-}
-
-// Room for a piece of the input.
-fn no_input() -> [u8; BUFFER]
-    ensures { buffer_size ≡ length result }
-{
-    [0; BUFFER]
-}
-
-// Room for a block and one text more.
-fn no_texts() -> [u8; BLOCK + MOST]
-    ensures { block_size + most_turned ≡ length result }
-{
-    [0; BLOCK + MOST]
-}
-
-// Document 02, #105. All lines of the reader. `turns` begins with more than any run takes.
+// Document 02, #105. All lines of the reader. The last block is a part of one.
 pub fn run(reader: &mut impl Read, writer: &mut impl Write, to: Width) {
-    let mut buffer = no_input();
-    let mut out = no_texts();
-    let mut kept = 0;
-    let mut pending = 0;
-    let mut turns = u64::MAX;
-    while 0 < turns {
-        let t = take_turn(reader, writer, to, kept, &mut buffer, pending, &mut out);
-        kept = t.kept;
-        pending = t.pending;
-        turns = input::left(turns, t.more);
-    }
-    finish(writer, to, kept, &mut buffer, pending, &mut out);
+    let mut converter = Converter {
+        to,
+        output: Output::new(),
+    };
+    input::run(reader, writer, &mut converter);
+    let _ = writer.write_all(converter.output.rest());
 }
 
 // Document 02, #105. Of a line that has not ended no more counts than what is kept of it. This function does nothing: it carries the law as its promise.

@@ -1,11 +1,10 @@
 -- Frames kind by kind: the size of a kind, and the frame that bytes of that size are.
 use mathlib.Core.Path.{◌≡◌, refl, sym, ◌∙◌}
-use mathlib.Core.Logic.{◌⊎◌, inl, inr}
 use Prim.Native.Nat.{ℕ, zero, suc, ◌*◌, ◌<◌, ◌≤◌}
 use mathlib.Core.Bool.{Bool, true, false, cond, and-true, and-false}
 use mathlib.Core.List.{List}
 use native.Mathlib.Omega.{arith}
-use borrow.Author.Tests.{eq-eqb, ne_eqb}
+use borrow.Author.Tests.{eq-eqb, ne_eqb, eqb-false}
 use lib.Dec.{eqb}
 use lib.ListN.{length, get_or, take}
 use lib.Seq.{take_all}
@@ -138,26 +137,34 @@ frame_front k b h =
     (λ k n. frame_none id_size k n b ∙ sym (frame_none id_size k n (take (size_of k) b)))
     k
 
--- whether a frame has an id, by its kind
-pub with_id : (w k : ℕ) (b : List ℕ) → (size_in w k ≡ 0 → ⊥) → (k ≡ 3 → ⊥) → (k ≡ 4 → ⊥) → (k ≡ 5 → ⊥) → shape_of (frame_as_in w k b) ≡ WithId
+-- whether a frame has an id, by its kind: those from 3 to 5 have none
+pub with_id : (w k : ℕ) (b : List ℕ) → (size_in w k ≡ 0 → ⊥) → (3 ≤ k → 5 < k) → shape_of (frame_as_in w k b) ≡ WithId
 unfolding frame_as_in
 with_id w k b =
-    by_kind (λ k. (size_in w k ≡ 0 → ⊥) → (k ≡ 3 → ⊥) → (k ≡ 4 → ⊥) → (k ≡ 5 → ⊥) → shape_of (frame_as_in w k b) ≡ WithId)
-    (λ s n3 n4 n5. refl)
-    (λ s n3 n4 n5. refl)
-    (λ s n3 n4 n5. absurd (n3 refl))
-    (λ s n3 n4 n5. absurd (n4 refl))
-    (λ s n3 n4 n5. absurd (n5 refl))
-    (λ s n3 n4 n5. refl)
-    (λ s n3 n4 n5. refl)
-    (λ k n s n3 n4 n5. absurd (s (n.size w)))
+    by_kind (λ k. (size_in w k ≡ 0 → ⊥) → (3 ≤ k → 5 < k) → shape_of (frame_as_in w k b) ≡ WithId)
+    (λ s h. refl)
+    (λ s h. refl)
+    (λ s h. absurd (omega arith))
+    (λ s h. absurd (omega arith))
+    (λ s h. absurd (omega arith))
+    (λ s h. refl)
+    (λ s h. refl)
+    (λ k n s h. absurd (s (n.size w)))
     k
 
-pub without_id : (w k : ℕ) (b : List ℕ) → (k ≡ 3) ⊎ (k ≡ 4) ⊎ (k ≡ 5) → shape_of (frame_as_in w k b) ≡ WithoutId
+pub without_id : (w k : ℕ) (b : List ℕ) → 3 ≤ k → k ≤ 5 → shape_of (frame_as_in w k b) ≡ WithoutId
 unfolding frame_as_in
-without_id w k b (inl e) = rw e refl
-without_id w k b (inr (inl e)) = rw e refl
-without_id w k b (inr (inr e)) = rw e refl
+without_id w k b =
+    by_kind (λ k. 3 ≤ k → k ≤ 5 → shape_of (frame_as_in w k b) ≡ WithoutId)
+    (λ h i. absurd (omega arith))
+    (λ h i. absurd (omega arith))
+    (λ h i. refl)
+    (λ h i. refl)
+    (λ h i. refl)
+    (λ h i. absurd (omega arith))
+    (λ h i. absurd (omega arith))
+    (λ k n h i. absurd (omega (arith, eqb-false k 3 n.not_3, eqb-false k 4 n.not_4, eqb-false k 5 n.not_5)))
+    k
 
 -- a line of pairs that is as long as its kind asks for, and one that is not
 module _ (w : ℕ) (l : List ℕ) where

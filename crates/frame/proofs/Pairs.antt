@@ -29,7 +29,7 @@ pub hex_high : (d : ℕ) → 10 ≤ d → hex d ≡ d + 55
 unfolding hex
 hex_high d h = rw (le-ltb d 10 h)
 
-digit_hex : (d : ℕ) → d < 16 → digit (hex d) ≡ d
+pub digit_hex : (d : ℕ) → d < 16 → digit (hex d) ≡ d
 digit_hex d h = go (ltb d 10) refl
   where
     go : (b : Bool) → ltb d 10 ≡ b → digit (hex d) ≡ d

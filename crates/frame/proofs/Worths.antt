@@ -1,43 +1,56 @@
--- What bytes are worth as digits: the table by one test over all of it, and pairs.
-use mathlib.Core.Path.{◌≡◌, refl}
+-- What bytes are worth as digits: the table digit by digit, and pairs.
+use mathlib.Core.Path.{◌≡◌, refl, sym, ap, ◌∙◌}
 use mathlib.Core.Logic.{◌⊎◌, inl, inr}
-use Prim.Native.Nat.{ℕ, zero, suc, ◌+◌, ◌*◌, ◌<◌, ◌≤◌}
-use mathlib.Core.Bool.{Bool, true, false, ◌&&◌}
-use mathlib.Core.List.{List, [], ◌∷◌}
-use native.Mathlib.Nat.{add-zero}
+use Prim.Native.Nat.{ℕ, ◌+◌, ◌*◌, ◌<◌, ◌≤◌}
+use mathlib.Core.Bool.{Bool, true, false, cond}
+use mathlib.Core.List.{List}
 use native.Mathlib.Omega.{arith}
-use borrow.Author.Tests.{eqb-true, lt-ltb, le-ltb, ltb-true, ltb-false}
+use borrow.Author.Tests.{eqb-true, eqb-false, lt-ltb, le-ltb, ltb-true, ltb-false}
+use borrow.Table.Steps.{cases}
 use lib.Dec.{eqb, ltb}
-use lib.ListN.{length, get_or, set, replicate}
+use lib.ListN.{length, get_or, set, replicate, length-set, get_or-replicate}
+use Rattle.std.proofs.Common.{get_or-set_same, get_or-set_other}
 use Rattle.rules.specs.Frames.{digit}
-use Rattle.rules.proofs.Tests.{each_true}
-use Rattle.frame.specs.Decoded.{worth}
+use Rattle.frame.specs.Decoded.{worth, Table}
+use Rattle.frame.specs.Encoded.{hex}
+use Rattle.frame.proofs.Pairs.{digit_hex, hex_digit}
 
--- each entry is what its place is worth, counted from i
-right : ℕ → List ℕ → Bool
-right i [] = true
-right i (x ∷ xs) = eqb x (worth i) && right (suc i) xs
+-- what a byte stands for as a digit below d, 256 where it is none of them
+unfoldable pub worth_below : (d c : ℕ) → ℕ
+worth_below d c = cond (ltb (digit c) d) (digit c) 256
 
-from : (xs : List ℕ) (i : ℕ) → right i xs ≡ true → (k : ℕ) → k < length xs → get_or xs k 0 ≡ worth (i + k)
-unfolding right
-from [] i t k h = absurd (omega arith)
-from (x ∷ xs) i t zero h = rw (add-zero i) (eqb-true x (worth i) (each_true (eqb x (worth i)) (right (suc i) xs) t).0)
-from (x ∷ xs) i t (suc k) h =
-    let z : i + suc k ≡ suc i + k = omega arith in
-    rw z (from xs (suc i) (each_true (eqb x (worth i)) (right (suc i) xs) t).1 k (omega arith))
+-- a list that has this for each byte
+pub record TableBelow (d : ℕ) (t : List ℕ) : Type 0 where
+  pub size : length t ≡ 256
+  pub at : (c : ℕ) → c < 256 → get_or t c 0 ≡ worth_below d c
 
--- none is a digit but these sixteen
-unfoldable pub values : List ℕ
-values =
-    set (set (set (set (set (set (set (set (set (set (set (set (set (set (set (set (replicate 256 256) 48 0) 49 1) 50 2) 51 3) 52 4) 53 5) 54 6) 55 7) 56 8) 57 9) 65 10) 66 11) 67 12) 68 13) 69 14) 70 15
+pub below_none : TableBelow 0 (replicate 256 256)
+unfolding worth_below
+below_none = record { size = refl; at = λ c h. rw (get_or-replicate {A = ℕ} 256 c 256 0 h, le-ltb (digit c) 0 (omega arith)) }
 
-values_right : right 0 values ≡ true
-unfolding worth digit right values
-values_right = refl
+-- the entry of one digit more
+pub below_more : {d : ℕ} {t : List ℕ} → d < 16 → TableBelow d t → TableBelow (d + 1) (set t (hex d) d)
+unfolding worth_below
+below_more {d} {t} h p = record { size = length-set t (hex d) d ∙ p.size; at = at }
+  where
+    other : (c : ℕ) → (c ≡ hex d → ⊥) → digit c ≡ d → ⊥
+    other c n e = n (sym (hex_digit c (omega arith)) ∙ ap hex e)
 
-pub values_at : (k : ℕ) → k < 256 → get_or values k 0 ≡ worth k
-unfolding values
-values_at k h = let z : 0 + k ≡ k = omega arith in rw z at (from values 0 values_right k h)
+    same : (c : ℕ) → (digit c ≡ d → ⊥) → worth_below d c ≡ worth_below (d + 1) c
+    same c n =
+        cases (ltb (digit c) d)
+        (λ q. let l = ltb-true (digit c) d q in rw (q, lt-ltb (digit c) (d + 1) (omega arith)))
+        (λ q. let l = ltb-false (digit c) d q in rw (q, le-ltb (digit c) (d + 1) (omega arith)))
+
+    at : (c : ℕ) → c < 256 → get_or (set t (hex d) d) c 0 ≡ worth_below (d + 1) c
+    at c k =
+        cases (eqb c (hex d))
+        (λ q. let e = eqb-true c (hex d) q in let i : hex d < length t = omega (arith, p.size) in rw (e, get_or-set_same t (hex d) d 0 i, digit_hex d h, lt-ltb d (d + 1) (omega arith)))
+        (λ q. let n = eqb-false c (hex d) q in rw (get_or-set_other t (hex d) c d 0 n) (p.at c k ∙ same c (other c n)))
+
+pub below_all : {t : List ℕ} → TableBelow 16 t → Table t
+unfolding worth_below worth
+below_all p = record { at = p.at }
 
 -- a byte that is a digit, and one that is none
 module _ (c : ℕ) where

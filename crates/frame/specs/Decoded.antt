@@ -1,5 +1,5 @@
 -- What the functions under the decoder promise: a kind's size, its frame from the bytes, and the pairs of a line as bytes.
-use Rattle.std.specs.Prelude.{◌≡◌, ℕ, ◌*◌, ◌<◌, ◌≤◌, Bool, true, cond, List, ltb, eqb, length, take, get_or}
+use Rattle.std.specs.Prelude.{◌≡◌, ℕ, ◌*◌, ◌/◌, ◌<◌, ◌≤◌, Bool, true, cond, List, ltb, eqb, length, take, get_or}
 use Rattle.std.proofs.Math.Option.{Option, none, some}
 use Rattle.rules.specs.declared.Line.{Line}
 use Rattle.rules.specs.declared.Line.TheVariants.{Good, Bad}
@@ -74,14 +74,14 @@ all_digits l = each (λ c. ltb (digit c) 16) l
 pub record Table (t : List ℕ) : Type 0 where
   pub at : (c : ℕ) → c < 256 → get_or t c 0 ≡ worth c
 
--- a line of n pairs, and an array with a place for the byte of each
-pub record LineOfPairs (l : List ℕ) (n : ℕ) (b : List ℕ) : Type 0 where
-  pub few : n ≤ event_frame
-  pub pairs : length l ≡ 2 * n
+-- a line of pairs, and an array with a place for the byte of each
+pub record LineOfPairs (l b : List ℕ) : Type 0 where
+  pub few : length l ≤ 2 * event_frame
+  pub pairs : length l ≡ 2 * (length l / 2)
   pub places : length b ≡ event_frame
 
--- whether the n pairs of a line are digits, and if so their bytes, at the front of the array
-pub record Unhexed (l : List ℕ) (n : ℕ) (good : Bool) (b : List ℕ) : Type 0 where
+-- whether the pairs of a line are digits, and if so their bytes, at the front of the array
+pub record Unhexed (l : List ℕ) (good : Bool) (b : List ℕ) : Type 0 where
   pub size : length b ≡ event_frame
   pub digits : good ≡ paired l
-  pub bytes : good ≡ true → take n b ≡ unhex l
+  pub bytes : good ≡ true → take (length l / 2) b ≡ unhex l

@@ -1,5 +1,5 @@
 -- A frame as bytes and as a line, and the line written over the front of a buffer.
-use Rattle.std.specs.Prelude.{ℕ, ◌+◌, ◌*◌, ◌/◌, ◌%◌, ◌≤◌, cond, List, [], ◌∷◌, ◌++◌, leb, ltb, length}
+use Rattle.std.specs.Prelude.{ℕ, ◌+◌, ◌/◌, ◌%◌, cond, List, [], ◌∷◌, ◌++◌, leb, ltb, length}
 use Rattle.rules.specs.declared.Frame.{Frame}
 use Rattle.rules.specs.declared.Frame.TheVariants as frame
 use Rattle.rules.specs.Lists.{over}
@@ -46,11 +46,6 @@ frame_bytes f = kind_of f ∷ field_bytes f
 -- Frames and image, the line of a frame
 unfoldable pub encoded : Frame → List ℕ
 encoded f = hexed (frame_bytes f)
-
--- there are n bytes, and room for their pairs
-pub record PairsFit (n : ℕ) (bytes out : List ℕ) : Type 0 where
-  pub there : n ≤ length bytes
-  pub room : 2 * n ≤ length out
 
 -- what the encoder returns and leaves in a buffer: the line's length and the line over the front, or 0 and the buffer as it was if it is too short
 unfoldable pub encoded_into : Frame → List ℕ → ℕ × List ℕ

@@ -1,9 +1,9 @@
 // Pairs of upper-case hexadecimal digits, read and written.
-ghost use Rattle.std.specs.Prelude.{◌≡◌, ◌<◌, ltb, take, get_or};
+ghost use Rattle.std.specs.Prelude.{◌≡◌, ◌*◌, ◌<◌, ◌≤◌, ltb, length, get_or};
 ghost use Rattle.rules.specs.Lists.{over};
 ghost use Rattle.rules.specs.Frames.{digit, unhex};
 ghost use Rattle.frame.specs.Decoded.{worth, all_digits, Table, LineOfPairs, Unhexed};
-ghost use Rattle.frame.specs.Encoded.{hex, hexed, PairsFit};
+ghost use Rattle.frame.specs.Encoded.{hex, hexed};
 
 use crate::LONGEST;
 
@@ -13,6 +13,8 @@ const SHORT_EVENT: usize = 68;
 const CLOCK: usize = 18;
 
 // What a digit stands for, 16 for any other byte.
+// Kept: 16, not None: the definition `digit` says so, and one comparison of `size_of` tests the kind and both its digits.
+// Kept: a `match` beside `table`: this reads one pair of a line, for which a table of 256 entries would first be made.
 fn nibble(c: u8) -> u8
     ensures { result ≡ digit c }
 {
@@ -24,13 +26,14 @@ fn nibble(c: u8) -> u8
 }
 
 // What the first pair stands for. It is above 15 where a byte of it is no digit.
+// Kept: 0, not None, where there is no pair: the promise says so by `get_or`, and 0 is the number of no kind.
 pub(crate) fn first(line: &[u8]) -> u16
     ensures { result ≡ get_or (unhex line.now) 0 0 }
 {
-    if line.len() < 2 {
+    let [high, low, ..] = line else {
         return 0;
-    }
-    16 * nibble(line[0]) as u16 + nibble(line[1]) as u16
+    };
+    16 * nibble(*high) as u16 + nibble(*low) as u16
 }
 
 // Whether a byte is a digit. Both tests are made of every byte, so that no branch stands in the way of taking many bytes at once.
@@ -47,10 +50,8 @@ fn all_digits(line: &[u8]) -> bool
     ensures { result ≡ all_digits line.now }
 {
     let mut all = true;
-    let mut i = 0;
-    while i < line.len() {
-        all = all & is_digit(line[i]);
-        i += 1;
+    for c in line {
+        all &= is_digit(*c);
     }
     all
 }
@@ -69,27 +70,15 @@ pub(crate) fn are_digits(line: &[u8]) -> bool
     all_digits(line)
 }
 
-// What each byte stands for as a digit, 256 where it is none: '0' to '9' are the bytes from 48 on, 'A' to 'F' those from 65 on.
+// What each byte stands for as a digit, 256 where it is none.
+// Kept: 256, not None, here and at `value`: the definition `worth` says so, and one comparison of `read_pairs` tests both bytes of a pair.
 fn table() -> [u16; 256]
     ensures { Table result }
 {
     let mut values = [256u16; 256];
-    values[48] = 0;
-    values[49] = 1;
-    values[50] = 2;
-    values[51] = 3;
-    values[52] = 4;
-    values[53] = 5;
-    values[54] = 6;
-    values[55] = 7;
-    values[56] = 8;
-    values[57] = 9;
-    values[65] = 10;
-    values[66] = 11;
-    values[67] = 12;
-    values[68] = 13;
-    values[69] = 14;
-    values[70] = 15;
+    for d in 0..16u8 {
+        values[digit_of(d) as usize] = d as u16;
+    }
     values
 }
 
@@ -101,22 +90,22 @@ fn value(values: &[u16; 256], c: u8) -> u16
     values[c as usize]
 }
 
-// The bytes of a line of n pairs, in one pass that stops at the first pair with a byte that is no digit; whether there is no such byte.
-pub(crate) fn read_pairs(line: &[u8], n: usize, bytes: &mut [u8; LONGEST]) -> bool
-    requires { LineOfPairs line.now n bytes.old }
-    ensures { Unhexed line.now n result bytes.new }
+// The bytes that the pairs of a line stand for, in one pass that stops at the first pair with a byte that is no digit; whether there is no such byte.
+// Kept: a `bool` and a lent array, not an `Option` of the array: that is copied byte by byte, 30 instructions more for each line.
+pub(crate) fn read_pairs(line: &[u8], bytes: &mut [u8; LONGEST]) -> bool
+    requires { LineOfPairs line.now bytes.old }
+    ensures { Unhexed line.now result bytes.new }
 {
     let values = table();
-    let mut i = 0;
-    while i < n {
-        let high = value(&values, line[2 * i]);
-        let low = value(&values, line[2 * i + 1]);
+    let (pairs, _) = line.as_chunks::<2>();
+    for (i, [high, low]) in pairs.iter().enumerate() {
+        let high = value(&values, *high);
+        let low = value(&values, *low);
         let pair = 16 * high + low;
         if 255 < pair {
             return false;
         }
         bytes[i] = pair as u8;
-        i += 1;
     }
     true
 }
@@ -132,16 +121,14 @@ fn digit_of(d: u8) -> u8
     }
 }
 
-// Writes the first n bytes as pairs over the front of `out`.
-pub(crate) fn put_pairs(out: &mut [u8], bytes: &[u8], n: usize)
-    requires { PairsFit n bytes.now out.old }
-    ensures { out.new ≡ over (hexed (take n bytes.now)) out.old }
+// Writes bytes as pairs over the front of `out`.
+// Kept: two places of `out` by their index: the library says nothing of what a slice ends as whose chunks were lent to be written.
+pub(crate) fn put_pairs(out: &mut [u8], bytes: &[u8])
+    requires { 2 * length bytes.now ≤ length out.old }
+    ensures { out.new ≡ over (hexed bytes.now) out.old }
 {
-    let mut i = 0;
-    while i < n {
-        let byte = bytes[i];
-        out[2 * i] = digit_of(byte / 16);
-        out[2 * i + 1] = digit_of(byte % 16);
-        i += 1;
+    for (i, byte) in bytes.iter().enumerate() {
+        out[2 * i] = digit_of(*byte / 16);
+        out[2 * i + 1] = digit_of(*byte % 16);
     }
 }

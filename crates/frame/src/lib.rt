@@ -39,57 +39,51 @@ const LONGEST: usize = EVENT_FRAME + Id::SIZE;
 // Frames and image. The longest line of a frame.
 pub const LONGEST_LINE: usize = 2 * LONGEST;
 
-// Document 02, #105. The sizes of the kinds from 0 to 7 as the bytes of one number, kind 0 the last: what they have besides an id, and a 1 for each with an id.
-const FIELDS: usize = 0x01_01_00_00_00_01_00_00 * ID_FRAME
-    + 0x01_00 * EVENT_FRAME
-    + 0x01_00_00_00 * CLOCK_FRAME
-    + 0x01_00_00_00_00 * PROGRAM_FRAME
-    + 0x01_00_00_00_00_00 * ASK_FRAME;
+// Document 02, #105. Of the kinds from 0 to 7, 0 being none: how many bytes a frame has without its ids, and how many ids.
+const FIELDS: [usize; 8] = [
+    0,
+    EVENT_FRAME,
+    ID_FRAME,
+    CLOCK_FRAME,
+    PROGRAM_FRAME,
+    ASK_FRAME,
+    ID_FRAME,
+    ID_FRAME,
+];
 
-const IDS: usize = 0x01_01_00_00_00_01_01_00;
-
-const SHORT_SIZES: usize = FIELDS + Id::HALF * IDS;
-
-const LONG_SIZES: usize = FIELDS + Id::SIZE * IDS;
+const IDS: [usize; 8] = [0, 1, 1, 0, 0, 0, 1, 1];
 
 // Frames and image. How many bytes a frame of a kind has, 0 for a number that is no kind. Every line asks for it, so it does not branch by the kind.
+// Kept: 0, not None: `size_in` says so. All that ask compare twice the size with a length, and all but `shape_of` need no case for 0; each would for None.
 fn size_of(width: Width, kind: u16) -> usize
     ensures { result ≡ size_in (width_of width) kind }
 {
     if 7 < kind {
         return 0;
     }
-    let sizes = match width {
-        Width::Short => SHORT_SIZES,
-        Width::Long => LONG_SIZES,
+    let id = match width {
+        Width::Short => Id::HALF,
+        Width::Long => Id::SIZE,
     };
-    (sizes >> (8 * kind)) % 256
+    FIELDS[kind as usize] + IDS[kind as usize] * id
 }
 
 // Frames and image. Where the first line of a text ends: at its line feed, or where the text ends.
 pub fn line_end(text: &[u8]) -> usize
     ensures { result ≡ up_to text.now }
 {
-    let mut i = 0;
-    while i < text.len() {
-        if text[i] == b'\n' {
-            return i;
-        }
-        i += 1;
-    }
-    i
+    text.iter().position(|b| *b == b'\n').unwrap_or(text.len())
 }
 
 // Frames and image. Where the first line of a text ends if it is a frame's, whose kind tells how long it is; 0 if no line feed stands there.
+// Kept: 0, not None: the public clauses `found` and `is` say so.
 pub fn likely_end(width: Width, text: &[u8]) -> usize
     ensures found { LikelyEnd (width_of width) text.now result }
     ensures is { result ≡ likely_end (width_of width) text.now }
 {
     let end = 2 * size_of(width, digits::first(text));
-    if end < text.len() {
-        if text[end] == b'\n' {
-            return end;
-        }
+    if end < text.len() && text[end] == b'\n' {
+        return end;
     }
     0
 }
@@ -118,9 +112,7 @@ pub fn shape_of(width: Width, line: &[u8]) -> Shape
         return Shape::NoFrame;
     }
     match kind {
-        3 => Shape::WithoutId,
-        4 => Shape::WithoutId,
-        5 => Shape::WithoutId,
+        3 | 4 | 5 => Shape::WithoutId,
         _ => Shape::WithId,
     }
 }
@@ -135,13 +127,15 @@ pub fn decode(line: &[u8]) -> Line
         return Line::Bad;
     }
     let mut bytes = [0u8; LONGEST];
-    if !digits::read_pairs(line, size, &mut bytes) {
+    if !digits::read_pairs(line, &mut bytes) {
         return Line::Bad;
     }
     fields::frame_as(kind, &bytes)
 }
 
 // Frames and image. The kind of a frame.
+// Kept: a number, here, at `shape_of`, in the tables and at `fields::frame_as`: document 01 has the kind matched as the primacy byte is (Form by location,
+// primacies), and `kind_of` of the definitions gives the number, which their `size_in` and `frame_as` take.
 fn kind_of(f: Frame) -> u16
     ensures { result ≡ kind_of f }
 {
@@ -157,6 +151,7 @@ fn kind_of(f: Frame) -> u16
 }
 
 // Frames and image. Writes the line of a frame over the front of `out` and returns its length; if `out` is too short, leaves it alone and returns 0.
+// Kept: 0, not None: the public clause says so by `encoded_into`.
 pub fn encode(f: Frame, out: &mut [u8]) -> usize
     ensures { (result, out.new) ≡ encoded_into f out.old }
 {
@@ -168,7 +163,7 @@ pub fn encode(f: Frame, out: &mut [u8]) -> usize
     let mut bytes = [0u8; LONGEST];
     octets::put(&mut bytes, 0, 1, kind as u64);
     fields::put(&mut bytes, f);
-    digits::put_pairs(out, &bytes, size);
+    digits::put_pairs(out, &bytes[..size]);
     2 * size
 }
 

@@ -1,34 +1,45 @@
 // What an operation returns for an answer, and when it stores.
-ghost use Rattle.std.specs.Prelude.{◌≡◌, ◌<◌, ◌≤◌};
+ghost use Rattle.std.specs.Prelude.{◌≡◌, ◌≤◌};
 ghost use Rattle.rules.specs.Records.{most_rows};
-ghost use Rattle.rules.specs.Calls.{value_of, counted};
+ghost use Rattle.rules.specs.Calls.{refusal_number, reply_value, value_of, counted};
 ghost use Rattle.rules.specs.Face.{shown, negative};
-ghost use Rattle.hadulmir.specs.Outcomes.{MayStore, returned_for, finished};
+ghost use Rattle.hadulmir.specs.Outcomes.{MayStore, holder_of, returned_for, finished};
 
 use calls::Answered;
-use rules::Answer;
+use rules::{Answer, Id, Refusal, Reply};
 
-// An answer that is no refusal as one number.
-fn shown(answer: Answer) -> u32
-    requires { counted (value_of answer) ≤ most_rows }
-    ensures { result ≡ shown (value_of answer) }
+// What an accepted call gives as one number.
+fn shown(reply: Reply) -> u32
+    requires { counted (reply_value reply) ≤ most_rows }
+    ensures { result ≡ shown (reply_value reply) }
 {
-    match answer {
-        Answer::Refused(_) => 0,
-        Answer::Code(n) => n as u32,
-        Answer::Count(n) => n as u32,
-        Answer::Holder(_) => 1,
-        Answer::Default(p) => 2 + p as u32,
-        Answer::Nobody => 0,
+    match reply {
+        Reply::Code(n) => n as u32,
+        Reply::Count(n) => n as u32,
+        Reply::Holder(_) => 1,
+        Reply::Default(p) => 2 + p as u32,
+        Reply::Nobody => 0,
     }
 }
 
 // A refusal as one number: two's complement on 32 bits.
-pub(crate) fn negative(n: u8) -> u32
-    requires { 0 < n }
-    ensures { result ≡ negative n }
+pub(crate) fn negative(refusal: Refusal) -> u32
+    ensures { result ≡ negative (refusal_number refusal) }
 {
-    (4_294_967_296 - n as u64) as u32
+    (refusal.number() as u32).wrapping_neg()
+}
+
+// The event that a question's answer names, if it names one.
+pub(crate) fn holder_of(answer: Answer) -> Option<Id>
+    ensures { result ≡ holder_of answer }
+{
+    match answer {
+        Ok(reply) => match reply {
+            Reply::Holder(id) => Some(id),
+            _ => None,
+        },
+        Err(_) => None,
+    }
 }
 
 // What an operation returns for an answer.
@@ -36,11 +47,10 @@ pub(crate) fn returned(answer: Answer) -> u32
     requires { counted (value_of answer) ≤ most_rows }
     ensures { result ≡ returned_for answer }
 {
-    let n = answer.number();
-    if n == 0 {
-        return shown(answer);
+    match answer {
+        Ok(reply) => shown(reply),
+        Err(refusal) => negative(refusal),
     }
-    negative(n)
 }
 
 // The end of an operation that changes the schedule. An accepted one is stored.
@@ -48,11 +58,11 @@ pub(crate) fn finish(a: Answered, image: &mut [u8]) -> u32
     requires { MayStore a.answer image.old }
     ensures { (result, image.new) ≡ finished a image.old }
 {
-    let answer = a.answer;
-    if answer.number() != 0 {
-        return returned(answer);
+    match a.answer {
+        Ok(reply) => {
+            image::write(a.schedule, image);
+            shown(reply)
+        }
+        Err(refusal) => negative(refusal),
     }
-    let schedule = a.schedule;
-    image::write(schedule, image);
-    returned(answer)
 }

@@ -9,13 +9,14 @@ ghost use Rattle.std.specs.Prelude.{◌≡◌, true, false, []};
 ghost use Rattle.rules.specs.Records.{halves, event_of};
 ghost use Rattle.rules.specs.Converted.{lengthened, shortened, turned_into, face_line};
 ghost use Rattle.rules.specs.Face.{adds_program, delivers, cancels, chooses, sets_clock, asks, lists, face, face_fresh};
-ghost use Rattle.hadulmir.specs.Outcomes.{load_outcome, store_outcome, face_of};
+ghost use Rattle.hadulmir.specs.Outcomes.{no_image, load_outcome, store_outcome, face_of};
 
 mod answers;
 
-use rules::{Answer, Event, Id, Record, Schedule};
+use rules::{Answer, Event, Id, Record, Refusal, Reply, Response, Schedule};
 
 // What loading returns.
+// Kept: a schedule beside the answer and no result with one in it, as `load` promises the fresh schedule with its refusal.
 #[derive(Clone, Copy)]
 pub struct Opened {
     pub answer: Answer,
@@ -26,23 +27,23 @@ pub struct Opened {
 pub fn load(b: &[u8]) -> Opened
     ensures { result ≡ load_outcome b.now }
 {
-    let read = image::read(b);
-    // The fresh schedule, if the bytes are no image.
-    let schedule = read.schedule;
-    if !read.formed {
-        return Opened {
-            answer: Answer::Refused(2),
-            schedule,
-        };
-    }
+    let Some(schedule) = image::read(b) else {
+        return no_image();
+    };
     if sound::is_sound(schedule) {
         return Opened {
-            answer: Answer::Code(0),
+            answer: Ok(Reply::from(Response::Silent)),
             schedule,
         };
     }
+    no_image()
+}
+
+fn no_image() -> Opened
+    ensures { result ≡ no_image }
+{
     Opened {
-        answer: Answer::Refused(2),
+        answer: Err(Refusal::BrokenRule),
         schedule: Schedule::fresh(),
     }
 }
@@ -53,10 +54,10 @@ pub fn store(s: Schedule, out: &mut [u8]) -> Answer
 {
     if sound::is_sound(s) {
         if image::write(s, out) {
-            return Answer::Code(0);
+            return Ok(Reply::from(Response::Silent));
         }
     }
-    Answer::Refused(2)
+    Err(Refusal::BrokenRule)
 }
 
 // The fresh image, into a buffer of its length.
@@ -67,7 +68,7 @@ pub extern "C" fn hadulmir_fresh(image: &mut [u8]) -> u32
     if image::write(Schedule::fresh(), image) {
         return 0;
     }
-    answers::negative(2)
+    answers::negative(Refusal::BrokenRule)
 }
 
 // Calls, add a program.
@@ -80,11 +81,9 @@ pub extern "C" fn hadulmir_add_program(
 ) -> u32
     ensures { face_of result image.new [] ≡ face image.old (adds_program number primacy defaults) [] }
 {
-    let read = image::read(image);
-    if !read.formed {
-        return answers::negative(2);
-    }
-    let s = read.schedule;
+    let Some(s) = image::read(image) else {
+        return answers::negative(Refusal::BrokenRule);
+    };
     answers::finish(calls::add_program(s, number, primacy, defaults), image)
 }
 
@@ -107,11 +106,9 @@ pub extern "C" fn hadulmir_deliver(
     ensures { face_of result image.new [] ≡ face image.old
         (delivers (event_of (halves id_high id_low) program controls created start duration randomize_start randomize_duration start_draw duration_draw)) [] }
 {
-    let read = image::read(image);
-    if !read.formed {
-        return answers::negative(2);
-    }
-    let s = read.schedule;
+    let Some(s) = image::read(image) else {
+        return answers::negative(Refusal::BrokenRule);
+    };
     let e = Event {
         id: Id::of(id_high, id_low),
         program,
@@ -132,27 +129,25 @@ pub extern "C" fn hadulmir_deliver(
 pub extern "C" fn hadulmir_cancel(image: &mut [u8], id_high: u64, id_low: u64) -> u32
     ensures { face_of result image.new [] ≡ face image.old (cancels (halves id_high id_low)) [] }
 {
-    let read = image::read(image);
-    if !read.formed {
-        return answers::negative(2);
-    }
-    let s = read.schedule;
+    let Some(s) = image::read(image) else {
+        return answers::negative(Refusal::BrokenRule);
+    };
     answers::finish(calls::cancel(s, Id::of(id_high, id_low)), image)
 }
 
 // Document 02, #102, opt out or opt in.
+// Kept: an id as two numbers, here and wherever one comes in: C hosts hand it in so.
 fn choose(image: &mut [u8], id_high: u64, id_low: u64, out: bool) -> u32
     ensures { face_of result image.new [] ≡ face image.old (chooses (halves id_high id_low) out) [] }
 {
-    let read = image::read(image);
-    if !read.formed {
-        return answers::negative(2);
-    }
-    let s = read.schedule;
+    let Some(s) = image::read(image) else {
+        return answers::negative(Refusal::BrokenRule);
+    };
     answers::finish(calls::choose(s, Id::of(id_high, id_low), out), image)
 }
 
 // Document 02, #102, opt out.
+// Kept: a function each way, as C hosts call them.
 #[unsafe(no_mangle)]
 pub extern "C" fn hadulmir_opt_out(image: &mut [u8], id_high: u64, id_low: u64) -> u32
     ensures { face_of result image.new [] ≡ face image.old (chooses (halves id_high id_low) true) [] }
@@ -173,11 +168,9 @@ pub extern "C" fn hadulmir_opt_in(image: &mut [u8], id_high: u64, id_low: u64) -
 pub extern "C" fn hadulmir_set_clock(image: &mut [u8], reading: u64, rows: &mut [u8]) -> u32
     ensures { face_of result image.new rows.new ≡ face image.old (sets_clock reading) rows.old }
 {
-    let read = image::read(image);
-    if !read.formed {
-        return answers::negative(2);
-    }
-    let s = read.schedule;
+    let Some(s) = image::read(image) else {
+        return answers::negative(Refusal::BrokenRule);
+    };
     answers::finish(calls::set_clock(s, reading, rows), image)
 }
 
@@ -186,18 +179,15 @@ pub extern "C" fn hadulmir_set_clock(image: &mut [u8], reading: u64, rows: &mut 
 pub extern "C" fn hadulmir_ask(image: &[u8], control: u8, id: &mut [u8]) -> u32
     ensures { face_of result image.now id.new ≡ face image.now (asks control) id.old }
 {
-    let read = image::read(image);
-    if !read.formed {
-        return answers::negative(2);
-    }
-    let s = read.schedule;
-    let a = calls::ask(s, control);
-    let answer = a.answer;
-    let Answer::Holder(holder) = answer else {
+    let Some(s) = image::read(image) else {
+        return answers::negative(Refusal::BrokenRule);
+    };
+    let answer = calls::ask(s, control).answer;
+    let Some(holder) = answers::holder_of(answer) else {
         return answers::returned(answer);
     };
     if id.len() < Id::SIZE {
-        return answers::negative(13);
+        return answers::negative(Refusal::NoRoom);
     }
     octets::put_id(id, 0, holder);
     1
@@ -208,27 +198,24 @@ pub extern "C" fn hadulmir_ask(image: &[u8], control: u8, id: &mut [u8]) -> u32
 pub extern "C" fn hadulmir_list(image: &[u8], records: &mut [u8]) -> u32
     ensures { face_of result image.now records.new ≡ face image.now lists records.old }
 {
-    let read = image::read(image);
-    if !read.formed {
-        return answers::negative(2);
-    }
-    let s = read.schedule;
+    let Some(s) = image::read(image) else {
+        return answers::negative(Refusal::BrokenRule);
+    };
     if !sound::is_sound(s) {
-        return answers::negative(2);
+        return answers::negative(Refusal::BrokenRule);
     }
     let n = s.count;
     if records.len() < Record::SIZE * n {
-        return answers::negative(13);
+        return answers::negative(Refusal::NoRoom);
     }
-    let mut i = 0;
-    while i < n {
-        image::put_record(records, Record::SIZE * i, Record::of(s.entries[i]));
-        i += 1;
+    for i in 0..n {
+        image::put_record(records, Record::SIZE * i, Record::from(s.entries[i]));
     }
     n as u32
 }
 
 // Document 02, #105. A recorded line's ids of 64 bits become ids of 128 bits, over the front of `out`. No image takes part.
+// Kept: a function each way, as C hosts call them.
 #[unsafe(no_mangle)]
 pub extern "C" fn hadulmir_lengthen(line: &[u8], out: &mut [u8]) -> u32
     ensures { (result, out.new) ≡ face_line (turned_into (lengthened line.now) out.old) }

@@ -3,12 +3,14 @@
 #![tactic(auto)]
 
 ghost use Rattle.std.specs.Prelude.{◌≡◌};
-ghost use Rattle.image.specs.Exchange.{no_image, read_of, written_to, put_record};
+ghost use Rattle.image.specs.Exchange.{read_of, written_to, put_record};
 
 mod reading;
 mod writing;
 
-use rules::{Entry, Event, Program, Record, Schedule};
+use octets::Number;
+use rules::{Entry, Event, Record, Schedule};
+use writing::Part;
 
 // Where the count of events stands in an image, and the mark and the choice of the first.
 const COUNT: usize = 8;
@@ -32,49 +34,14 @@ const BEGINS: usize = Event::SIZE;
 
 const HELD: usize = Event::SIZE + 8;
 
-// What bytes are as an image: whether they keep its length, its marks and the bits of its choices, and if so the schedule in them.
-#[derive(Clone, Copy)]
-pub struct Loaded {
-    pub formed: bool,
-    pub schedule: Schedule,
-}
-
-// Frames and image. Bytes that are no image give the fresh schedule.
-pub fn read(b: &[u8]) -> Loaded
+// Frames and image. The schedule in bytes that keep an image's length, its marks and the bits of its choices.
+pub fn read(b: &[u8]) -> Option<Schedule>
     ensures { result ≡ read_of b.now }
 {
-    if b.len() != Schedule::SIZE {
-        return no_image();
+    if !reading::is_formed(b) {
+        return None;
     }
-    if !reading::is_marked(
-        b,
-        LAST_MARK,
-        Program::SIZE,
-        Schedule::PROGRAMS,
-        Schedule::PROGRAMS_AT,
-    ) {
-        return no_image();
-    }
-    if !reading::is_marked(b, LAST_MARK, Entry::SIZE, Schedule::EVENTS, FIRST_MARK) {
-        return no_image();
-    }
-    if !reading::is_marked(b, LAST_CHOICE, Entry::SIZE, Schedule::EVENTS, FIRST_CHOICE) {
-        return no_image();
-    }
-    Loaded {
-        formed: true,
-        schedule: reading::schedule(b),
-    }
-}
-
-// What bytes that are no image give.
-fn no_image() -> Loaded
-    ensures { result ≡ no_image }
-{
-    Loaded {
-        formed: false,
-        schedule: Schedule::fresh(),
-    }
+    Some(reading::schedule(b))
 }
 
 // Frames and image. Writes the image into a buffer of its length; leaves any other alone and returns false.
@@ -84,12 +51,10 @@ pub fn write(s: Schedule, out: &mut [u8]) -> bool
     if out.len() != Schedule::SIZE {
         return false;
     }
-    let programs = s.programs;
-    let entries = s.entries;
-    octets::put8(out, 0, s.clock);
+    s.clock.write_at(out, 0);
     octets::put(out, COUNT, 1, s.count as u64);
-    writing::put_programs(out, programs);
-    writing::put_entries(out, entries);
+    writing::put_all(out, Schedule::PROGRAMS_AT, &s.programs);
+    writing::put_all(out, Schedule::ENTRIES_AT, &s.entries);
     true
 }
 
@@ -97,13 +62,8 @@ pub fn write(s: Schedule, out: &mut [u8]) -> bool
 pub fn put_record(out: &mut [u8], at: usize, r: Record)
     ensures { out.new ≡ put_record at r out.old }
 {
-    if out.len() < Record::SIZE {
-        return;
+    if octets::has_room(out.len(), at, Record::SIZE) {
+        r.entry.put(out, at);
+        r.earliest.write_at(out, at + Entry::SIZE);
     }
-    if out.len() - Record::SIZE < at {
-        return;
-    }
-    let entry = r.entry;
-    writing::put_entry(out, at, entry);
-    octets::put8(out, at + Entry::SIZE, r.earliest);
 }

@@ -1,36 +1,19 @@
 // The parts of an image, read at their places.
 ghost use Rattle.std.specs.Prelude.{◌≡◌, ◌+◌, ◌≤◌, length};
-ghost use Rattle.rules.specs.Records.{most_programs, most_events};
-ghost use Rattle.rules.specs.Bytes.{read, many, entry_size, entry_at, choice_of};
-ghost use Rattle.rules.specs.Image.{program_size, programs_at, entries_at, image_size, program_from, loaded, marked};
+ghost use Rattle.rules.specs.Bytes.{entry_size, entry_at, choice_of};
+ghost use Rattle.rules.specs.Image.{program_size, image_size, program_from, loaded, marked, formed};
 ghost use Rattle.image.specs.Exchange.{MarksInside};
 
-use crate::{BEGINS, COUNT, DEFAULTS, HELD, PRIMACY};
+use crate::{
+    BEGINS, COUNT, DEFAULTS, FIRST_CHOICE, FIRST_MARK, HELD, LAST_CHOICE, LAST_MARK, PRIMACY,
+};
+use octets::Number;
 use rules::{Choice, Entry, Program, Schedule};
-
-// Numbers of one, four and eight bytes.
-fn u8_at(b: &[u8], at: usize) -> u8
-    requires { at + 1 ≤ length b.now }
-    ensures { result ≡ read 1 at b.now }
-{
-    octets::get(b, at, 1) as u8
-}
-
-fn u32_at(b: &[u8], at: usize) -> u32
-    requires { at + 4 ≤ length b.now }
-    ensures { result ≡ read 4 at b.now }
-{
-    octets::get(b, at, 4) as u32
-}
-
-fn u64_at(b: &[u8], at: usize) -> u64
-    requires { at + 8 ≤ length b.now }
-    ensures { result ≡ read 8 at b.now }
-{
-    octets::get(b, at, 8)
-}
+use std::array;
 
 // Document 02, #102. The choice that is in a byte: whether the user is out, was in, was out, from the lowest bit.
+// Kept: a function, as `choice_byte` of writing.rt is. `From` between Choice and u8 could stand in crates/rules alone, where no code reads or
+// writes bytes, and would take the bytes above 7 too, which `is_formed` refuses.
 fn choice_of(b: u8) -> Choice
     ensures { result ≡ choice_of b }
 {
@@ -48,10 +31,10 @@ fn entry_at(b: &[u8], at: usize) -> Entry
 {
     Entry {
         event: octets::get_event(b, at),
-        begins: u64_at(b, at + BEGINS),
-        held: u32_at(b, at + HELD),
-        cancelled: u8_at(b, at + Entry::MARK) == 1,
-        choice: choice_of(u8_at(b, at + Entry::CHOICE)),
+        begins: u64::read_at(b, at + BEGINS),
+        held: u32::read_at(b, at + HELD),
+        cancelled: u8::read_at(b, at + Entry::MARK) == 1,
+        choice: choice_of(u8::read_at(b, at + Entry::CHOICE)),
     }
 }
 
@@ -61,61 +44,35 @@ fn program_at(b: &[u8], at: usize) -> Program
     ensures { result ≡ program_from at b.now }
 {
     Program {
-        added: u8_at(b, at) == 1,
-        primacy: u8_at(b, at + PRIMACY),
-        defaults: u32_at(b, at + DEFAULTS),
+        added: u8::read_at(b, at) == 1,
+        primacy: u8::read_at(b, at + PRIMACY),
+        defaults: u32::read_at(b, at + DEFAULTS),
     }
 }
 
-// Whether n bytes, k bytes from one to the next, are at most `most` each.
-pub(crate) fn is_marked(b: &[u8], most: u8, k: usize, n: usize, at: usize) -> bool
-    requires { MarksInside k n at b.now }
-    ensures { result ≡ marked most k n at b.now }
+// Whether so many bytes, `step` bytes from one to the next, are at most `most` each.
+fn is_marked(b: &[u8], most: u8, step: usize, count: usize, at: usize) -> bool
+    requires { MarksInside step count at b.now }
+    ensures { result ≡ marked most step count at b.now }
 {
-    let mut place = at;
-    let mut left = n;
-    while 0 < left {
-        if most < u8_at(b, place) {
-            return false;
-        }
-        place += k;
-        left -= 1;
-    }
-    true
+    (0..count).all(|i| b[at + step * i] <= most)
 }
 
-// All program entries.
-fn programs(b: &[u8]) -> [Program; Schedule::PROGRAMS]
-    requires { length b.now ≡ image_size }
-    ensures { result ≡ many program_from program_size most_programs programs_at b.now }
+// Whether bytes have an image's length, its marks and the bits of its choices.
+pub(crate) fn is_formed(b: &[u8]) -> bool
+    ensures { result ≡ formed b.now }
 {
-    let none = Program {
-        added: false,
-        primacy: 0,
-        defaults: 0,
-    };
-    let mut programs = [none; Schedule::PROGRAMS];
-    let mut i = 0;
-    while i < Schedule::PROGRAMS {
-        programs[i] = program_at(b, Schedule::PROGRAMS_AT + Program::SIZE * i);
-        i += 1;
+    if b.len() != Schedule::SIZE {
+        return false;
     }
-    programs
-}
-
-// All event entries.
-fn entries(b: &[u8]) -> [Entry; Schedule::EVENTS]
-    requires { length b.now ≡ image_size }
-    ensures { result ≡ many entry_at entry_size most_events entries_at b.now }
-{
-    let none = Entry::none();
-    let mut entries = [none; Schedule::EVENTS];
-    let mut i = 0;
-    while i < Schedule::EVENTS {
-        entries[i] = entry_at(b, Schedule::ENTRIES_AT + Entry::SIZE * i);
-        i += 1;
-    }
-    entries
+    is_marked(
+        b,
+        LAST_MARK,
+        Program::SIZE,
+        Schedule::PROGRAMS,
+        Schedule::PROGRAMS_AT,
+    ) && is_marked(b, LAST_MARK, Entry::SIZE, Schedule::EVENTS, FIRST_MARK)
+        && is_marked(b, LAST_CHOICE, Entry::SIZE, Schedule::EVENTS, FIRST_CHOICE)
 }
 
 // The schedule in an image.
@@ -124,9 +81,9 @@ pub(crate) fn schedule(b: &[u8]) -> Schedule
     ensures { result ≡ loaded b.now }
 {
     Schedule {
-        clock: u64_at(b, 0),
-        count: u8_at(b, COUNT) as usize,
-        programs: programs(b),
-        entries: entries(b),
+        clock: u64::read_at(b, 0),
+        count: u8::read_at(b, COUNT) as usize,
+        programs: array::from_fn(|i| program_at(b, Schedule::PROGRAMS_AT + Program::SIZE * i)),
+        entries: array::from_fn(|i| entry_at(b, Schedule::ENTRIES_AT + Entry::SIZE * i)),
     }
 }

@@ -1,5 +1,5 @@
--- What is kept of a line is short, and stands at the front; turns get fewer.
-use mathlib.Core.Path.{◌≡◌, refl, ap, ◌∙◌}
+-- What is kept of a line is short, and stands at the front.
+use mathlib.Core.Path.{◌≡◌, ap, ◌∙◌}
 use Prim.Native.Nat.{ℕ, ◌-◌, ◌<◌, ◌≤◌, min}
 use mathlib.Core.Bool.{Bool, true, false, cond, ◌&&◌, and-false}
 use mathlib.Core.List.{List}
@@ -51,13 +51,3 @@ module _ (from to : ℕ) (old : List ℕ) where
       by : (b : Bool) → ◌≡◌ {A = ℕ × List ℕ} (r, new) (cond b (min most_kept (to - from), over (take (min most_kept (to - from)) (drop from old)) old) (0, old)) → r ≤ most_kept
       by true q = omega (arith, ap (λ (p : ℕ × List ℕ). p.0) q)
       by false q = omega (arith, ap (λ (p : ℕ × List ℕ). p.0) q)
-
--- no turn is left, whether or not there is more
-pub no_turn : {turns : ℕ} (more : Bool) → turns ≡ 0 → 0 ≡ cond more (turns - 1) 0
-no_turn true h = omega arith
-no_turn false h = refl
-
--- one turn fewer, or none
-pub fewer : {r turns : ℕ} (more : Bool) → r ≡ cond more (turns - 1) 0 → 0 < turns → r < turns
-fewer true e h = omega arith
-fewer false e h = omega arith

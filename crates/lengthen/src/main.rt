@@ -4,6 +4,7 @@
 
 use frame::Width;
 
+// Kept: a program for each way, as document 02 names two.
 fn main(rt: HostRuntime) {
     converter::run(&mut rt.stdin(), &mut rt.stdout(), Width::Long);
 }

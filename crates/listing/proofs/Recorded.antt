@@ -10,15 +10,17 @@ use borrow.Author.Tests.{lt-ltb, le-ltb}
 use Rattle.rules.specs.declared.Entry.{Entry}
 use Rattle.rules.specs.declared.Record.{Record}
 use Rattle.rules.specs.declared.Schedule.{Schedule}
-use Rattle.rules.specs.declared.Answer.TheVariants.{Refused, Count}
+use Rattle.std.specs.Prelude.{Ok}
+use Rattle.rules.specs.declared.Refusal.TheVariants.{BrokenRule, NoRoom}
+use Rattle.rules.specs.declared.Reply.TheVariants.{Count}
 use Rattle.rules.specs.Lists.{over}
 use Rattle.rules.specs.Records.{view}
 use Rattle.rules.specs.Sound.{sound}
 use Rattle.rules.specs.Refusals.{list_checks}
-use Rattle.rules.specs.Calls.{Outcome, record_of, list, count, does, checks}
+use Rattle.rules.specs.Calls.{Outcome, record_of, list, count, does, checks, call}
 use Rattle.rules.proofs.SoundState.{rules, pad_view, in_count}
 use Rattle.rules.proofs.CallLaws.{done}
-use Rattle.listing.specs.Listed.{no_records, Lists}
+use Rattle.listing.specs.Listed.{no_records, left_with, Refuses}
 use Rattle.calls.proofs.Acting.{given, broken}
 use Rattle.rules.proofs.Copying.{copied_more, copied_all}
 
@@ -27,8 +29,8 @@ module _ (s : Schedule) where
   held = map record_of (view s).entries
 
   -- a schedule that breaks a rule
-  pub lists_broken : (room : ℕ) → sound s ≡ false → Lists s room (record { count = 0; records = no_records; answered = record { answer = Refused 2; schedule = s } })
-  lists_broken room e = record { fits = omega arith; few = omega arith; rest = refl; leaves = λ old l. broken s e (list old) }
+  pub lists_broken : (room : ℕ) → sound s ≡ false → Refuses s room BrokenRule
+  lists_broken room e old l = broken s e (list old)
 
   module _ (e : sound s ≡ true) where
     pub held_count : length held ≡ s.count
@@ -45,29 +47,20 @@ module _ (s : Schedule) where
     recorded_all = copied_all no_records held s.count (omega (arith, held_count)) ∙ ap (λ r. over r no_records) (take_all s.count held (omega (arith, held_count)))
 
     -- a list that is too short
-    pub lists_short : (room : ℕ) → room < s.count → Lists s room (record { count = 0; records = no_records; answered = record { answer = Refused 13; schedule = s } })
+    pub lists_short : (room : ℕ) → room < s.count → Refuses s room NoRoom
     unfolding checks list_checks
-    lists_short room l = record {
-      fits = omega arith;
-      few = omega arith;
-      rest = refl;
-      leaves = λ old m. given s e (list old) 13 refl (rw (lt-ltb (length old) (length (view s).entries) (omega (arith, in_count s e))));
-    }
+    lists_short room l old m = given s e (list old) 13 refl (rw (lt-ltb (length old) (length (view s).entries) (omega (arith, in_count s e))))
 
-    pub lists_all : (room : ℕ) → s.count ≤ room → Lists s room (record { count = s.count; records = over held no_records; answered = record { answer = Count s.count; schedule = s } })
+    -- and one with room for all
+    pub lists_all : (old : List Record) → s.count ≤ length old → left_with (Ok (Count s.count)) s (over held old) ≡ call s (list old)
     unfolding checks list_checks does
-    lists_all room l = record {
-      fits = l;
-      few = (rules s e).count;
-      rest = ap (λ r. over r no_records) (sym front);
-      leaves = λ old m.
-          ap (λ r. left s.count s (over r old)) front
-          ∙ ap₂ (λ n z. left n z (over held old)) (sym (in_count s e)) (sym (pad_view s e))
-          ∙ sym (done s e (list old) (rw (le-ltb (length old) (length (view s).entries) (omega (arith, in_count s e)))));
-    }
+    lists_all old l =
+        ap₂ (λ n z. left n z (over held old)) (sym (in_count s e)) (sym (pad_view s e))
+        ∙ sym (done s e (list old) (rw (le-ltb (length old) (length (view s).entries) (omega (arith, in_count s e)))))
       where
         left : ℕ → Schedule → List Record → Outcome
         left n z r = record { number = 0; value = count n; state = z; bytes = []; records = r }
 
-        front : take s.count (over held no_records) ≡ held
-        front = take_at held (drop (length held) no_records) s.count held_count
+    -- the first of the records over empty ones
+    pub front : take s.count (over held no_records) ≡ held
+    front = take_at held (drop (length held) no_records) s.count held_count

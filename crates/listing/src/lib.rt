@@ -13,6 +13,7 @@ use calls::Answered;
 use rules::{Answer, Record, Schedule};
 
 // What a listing by value returns: the answer, and the lent list as the call left it.
+// Kept: a result beside the schedule and the list: a refused call hands both back.
 #[derive(Clone, Copy)]
 pub struct AnsweredList {
     pub answer: Answer,
@@ -24,15 +25,12 @@ pub struct AnsweredList {
 pub fn listed(s: Schedule) -> AnsweredList
     ensures { listed_outcome result ≡ call s (list no_records) }
 {
-    let l = records::listing(s, Schedule::EVENTS);
-    let a = l.answered;
-    let answer = a.answer;
-    let records = l.records;
-    let schedule = a.schedule;
+    let mut records = records::no_records();
+    let answer = records::write(s, &mut records);
     AnsweredList {
         answer,
         records,
-        schedule,
+        schedule: s,
     }
 }
 
@@ -40,13 +38,9 @@ pub fn listed(s: Schedule) -> AnsweredList
 pub fn list(s: Schedule, records: &mut [Record]) -> Answered
     ensures { outcome_of result [] records.new ≡ call s (list records.old) }
 {
-    let l = records::listing(s, records.len());
-    let from = l.records;
-    let n = l.count;
-    let mut i = 0;
-    while i < n {
-        records[i] = from[i];
-        i += 1;
+    let answer = records::write(s, records);
+    Answered {
+        answer,
+        schedule: s,
     }
-    l.answered
 }

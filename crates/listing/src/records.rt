@@ -1,26 +1,17 @@
-// List: the records of the held events by ascending id, by value. What is to be written into a lent list is worked out here, and `list` of lib.rt writes it.
+// List: the records of the held events by ascending id, by value and written into a lent list.
 ghost use Rattle.std.specs.Prelude.{◌≡◌, true, map};
 ghost use Rattle.rules.specs.Lists.{over};
 ghost use Rattle.rules.specs.Records.{view};
 ghost use Rattle.rules.specs.Sound.{sound};
-ghost use Rattle.rules.specs.Calls.{record_of};
-ghost use Rattle.listing.specs.Listed.{no_records, Lists};
+ghost use Rattle.rules.specs.Calls.{record_of, call, list};
+ghost use Rattle.listing.specs.Listed.{no_records, left_with, Counts};
 
-use calls::Answered;
-use rules::{Answer, Entry, Record, Schedule};
+use rules::{Answer, Entry, Record, Refusal, Reply, Schedule};
 
-// How many records are to be written, and in which places they stand. A refused call writes none.
-#[derive(Clone, Copy)]
-pub(crate) struct Gathered {
-    pub(crate) count: usize,
-    pub(crate) records: [Record; Schedule::EVENTS],
-    pub(crate) answered: Answered,
-}
-
-fn no_records() -> [Record; Schedule::EVENTS]
+pub(crate) fn no_records() -> [Record; Schedule::EVENTS]
     ensures { result ≡ no_records }
 {
-    let record = Record::of(Entry::none());
+    let record = Record::from(Entry::none());
     [record; Schedule::EVENTS]
 }
 
@@ -31,50 +22,32 @@ fn records_of(s: Schedule) -> [Record; Schedule::EVENTS]
 {
     let n = s.count;
     let mut records = no_records();
-    let mut i = 0;
-    while i < n {
-        records[i] = Record::of(s.entries[i]);
-        i += 1;
+    for i in 0..n {
+        records[i] = Record::from(s.entries[i]);
     }
     records
 }
 
-// What the call does to a lent list with `room` places.
-pub(crate) fn listing(s: Schedule, room: usize) -> Gathered
-    ensures { Lists s room result }
+// How many records are to be written into a lent list with `room` places.
+fn check(s: Schedule, room: usize) -> Result<usize, Refusal>
+    ensures { Counts s room result }
 {
-    let none = no_records();
     if !sound::is_sound(s) {
-        let answered = Answered {
-            answer: Answer::Refused(2),
-            schedule: s,
-        };
-        return Gathered {
-            count: 0,
-            records: none,
-            answered,
-        };
+        return Err(Refusal::BrokenRule);
     }
     let count = s.count;
     if room < count {
-        let answered = Answered {
-            answer: Answer::Refused(13),
-            schedule: s,
-        };
-        return Gathered {
-            count: 0,
-            records: none,
-            answered,
-        };
+        return Err(Refusal::NoRoom);
     }
-    let records = records_of(s);
-    let answered = Answered {
-        answer: Answer::Count(count),
-        schedule: s,
-    };
-    Gathered {
-        count,
-        records,
-        answered,
-    }
+    Ok(count)
+}
+
+// Writes the records into a lent list. A refused call writes none.
+pub(crate) fn write(s: Schedule, records: &mut [Record]) -> Answer
+    ensures { left_with result s records.new ≡ call s (list records.old) }
+{
+    let count = check(s, records.len())?;
+    let held = records_of(s);
+    records[..count].copy_from_slice(&held[..count]);
+    Ok(Reply::Count(count))
 }

@@ -3,53 +3,45 @@
 #![tactic(auto)]
 
 use calls::Answered;
-use rules::{Answer, Event, Id, ROW_SIZE, ROWS_SIZE, Schedule};
+use rules::{Event, Id, ROW_SIZE, ROWS_SIZE, Reply, Schedule};
 use std::io;
 
-// The last byte of a row, and the bytes of a buffer that two rows do not fit.
-const ROW_END: usize = ROW_SIZE - 1;
-
+// The bytes of a buffer that two rows do not fit.
 const SHORT: usize = 2 * ROW_SIZE - 1;
 
-fn word(rt: &impl Print, text: &str, n: u64) -> io::Result<()> {
-    println!(rt; "{text}{n}")
-}
-
-// An id as its sixteen bytes.
-fn show_id(rt: &impl Print, id: Id) -> io::Result<()> {
-    println!(rt; "event {:016x}{:016x}", id.upper(), id.lower())
+// What a call replied, on a line; an id as its sixteen bytes.
+// Kept: functions, here and at `show`, and no `Display`: `Reply` and `Answered` are types of other crates, and the words are this program's alone.
+fn show_reply(rt: &impl Print, reply: Reply) -> io::Result<()> {
+    match reply {
+        Reply::Code(k) => println!(rt; "code {k}"),
+        Reply::Count(n) => println!(rt; "count {n}"),
+        Reply::Holder(id) => println!(rt; "event {:016x}{:016x}", id.upper(), id.lower()),
+        Reply::Default(p) => println!(rt; "default {p}"),
+        Reply::Nobody => println!(rt; "nobody"),
+    }
 }
 
 // What a call answered, on a line.
 fn show(rt: &impl Print, r: Answered) -> io::Result<Schedule> {
-    let answer = r.answer;
-    match answer {
-        Answer::Refused(n) => word(rt, "refused ", n as u64)?,
-        Answer::Code(k) => word(rt, "code ", k as u64)?,
-        Answer::Count(n) => word(rt, "count ", n as u64)?,
-        Answer::Holder(id) => show_id(rt, id)?,
-        Answer::Default(p) => word(rt, "default ", p as u64)?,
-        Answer::Nobody => println!(rt; "nobody")?,
+    match r.answer {
+        Ok(reply) => show_reply(rt, reply)?,
+        Err(refusal) => println!(rt; "refused {}", refusal.number())?,
     }
-    let schedule = r.schedule;
-    Ok(schedule)
+    Ok(r.schedule)
 }
 
-// The rows of a count, as they lie in the buffer, one to a line.
-fn show_rows(rt: &impl Print, buffer: &[u8], count: usize) -> io::Result<()> {
-    let mut i = 0;
-    let mut left = count;
-    while i < buffer.len() {
-        if left == 0 {
-            return Ok(());
-        }
-        let byte = buffer[i];
+// A row on a line.
+fn show_row(rt: &impl Print, row: &[u8]) -> io::Result<()> {
+    for byte in row {
         print!(rt; "{byte:02x}")?;
-        if i % ROW_SIZE == ROW_END {
-            println!(rt)?;
-            left -= 1;
-        }
-        i += 1;
+    }
+    println!(rt)
+}
+
+// The rows of a count, as they lie in the buffer.
+fn show_rows(rt: &impl Print, buffer: &[u8], count: usize) -> io::Result<()> {
+    for row in buffer.chunks_exact(ROW_SIZE).take(count) {
+        show_row(rt, row)?;
     }
     Ok(())
 }
@@ -58,23 +50,21 @@ fn show_rows(rt: &impl Print, buffer: &[u8], count: usize) -> io::Result<()> {
 fn read_clock(rt: &impl Print, s: Schedule, reading: u64) -> io::Result<Schedule> {
     let mut buffer = [0u8; ROWS_SIZE];
     let r = calls::set_clock(s, reading, &mut buffer);
-    let answer = r.answer;
-    if let Answer::Count(n) = answer {
-        show_rows(rt, &buffer, n)?;
-    }
+    show_rows(rt, &buffer, rules::times::counted(r.answer))?;
     show(rt, r)
 }
 
 // Id, program, controls, creation time, start, duration; nothing drawn.
 fn event(id: Id, program: u8, controls: u32, created: u32, start: u32, duration: u32) -> Event {
-    let mut e = Event::none();
-    e.id = id;
-    e.program = program;
-    e.controls = controls;
-    e.created = created;
-    e.start = start;
-    e.duration = duration;
-    e
+    Event {
+        id,
+        program,
+        controls,
+        created,
+        start,
+        duration,
+        ..Event::none()
+    }
 }
 
 // An id below 2^64.
@@ -82,13 +72,9 @@ fn small(low: u64) -> Id {
     Id::of(0, low)
 }
 
-fn title(rt: &impl Print, text: &str) -> io::Result<()> {
-    println!(rt; "{text}")
-}
-
 // The worked example.
 fn example(rt: &impl Print) -> io::Result<()> {
-    title(rt, "example")?;
+    println!(rt; "example")?;
     let mut s = Schedule::fresh();
     s = show(rt, calls::add_program(s, 0, 1, 1))?;
     s = read_clock(rt, s, 4000)?;
@@ -105,7 +91,7 @@ fn example(rt: &impl Print) -> io::Result<()> {
 
 // T10 and T11, with a cancellation before the end of T11's first.
 fn bench(rt: &impl Print) -> io::Result<()> {
-    title(rt, "T10")?;
+    println!(rt; "T10")?;
     let mut s = Schedule::fresh();
     s = show(rt, calls::add_program(s, 1, 1, 0))?;
     s = read_clock(rt, s, 4000)?;
@@ -113,7 +99,7 @@ fn bench(rt: &impl Print) -> io::Result<()> {
     s = show(rt, calls::deliver(s, event(small(2), 1, 1, 2, 5005, 25)))?;
     s = show(rt, calls::deliver(s, event(small(3), 1, 1, 1, 5012, 8)))?;
     s = read_clock(rt, s, 5030)?;
-    title(rt, "T11")?;
+    println!(rt; "T11")?;
     s = show(rt, calls::deliver(s, event(small(2), 1, 3, 0, 6000, 600)))?;
     s = show(rt, calls::deliver(s, event(small(1), 1, 1, 1, 6300, 60)))?;
     s = read_clock(rt, s, 6300)?;
@@ -128,7 +114,7 @@ fn bench(rt: &impl Print) -> io::Result<()> {
 
 // Document 02, #102 and #104: two events that end in one second, under ids that agree in their lower halves; the one's user comes back, the other's leaves.
 fn choices(rt: &impl Print) -> io::Result<()> {
-    title(rt, "choices")?;
+    println!(rt; "choices")?;
     let mut s = Schedule::fresh();
     s = show(rt, calls::add_program(s, 0, 1, 1))?;
     s = show(rt, calls::deliver(s, event(small(1), 0, 1, 0, 5000, 10)))?;
@@ -150,7 +136,7 @@ fn choices(rt: &impl Print) -> io::Result<()> {
 
 // Every refusal of the six calls but 10.
 fn refusals(rt: &impl Print) -> io::Result<()> {
-    title(rt, "refusals")?;
+    println!(rt; "refusals")?;
     let mut s = Schedule::fresh();
     s = show(rt, calls::add_program(s, 8, 1, 0))?;
     s = show(rt, calls::add_program(s, 1, 64, 0))?;
@@ -176,18 +162,14 @@ fn refusals(rt: &impl Print) -> io::Result<()> {
 
 // 10, at the 49th event.
 fn full(rt: &impl Print) -> io::Result<()> {
-    title(rt, "full")?;
-    let r = calls::add_program(Schedule::fresh(), 0, 0, 0);
-    let mut s = r.schedule;
-    let mut i: u64 = 0;
-    while i < 49 {
+    println!(rt; "full")?;
+    let mut s = calls::add_program(Schedule::fresh(), 0, 0, 0).schedule;
+    for i in 0..49 {
         let n = calls::deliver(s, event(small(i), 0, 1, 0, 5000, 600));
         if 46 < i {
             show(rt, n)?;
         }
-        let next = n.schedule;
-        s = next;
-        i += 1;
+        s = n.schedule;
     }
     Ok(())
 }

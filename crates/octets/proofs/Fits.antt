@@ -1,14 +1,15 @@
 -- A number, an id or an event whose bytes are all there is read and written, and bytes that are all there are copied; any others are not. What is read fits.
-use mathlib.Core.Path.{◌≡◌, refl}
-use Prim.Native.Nat.{ℕ, ◌+◌, ◌^◌, ◌<◌, ◌≤◌}
+use mathlib.Core.Path.{◌≡◌, refl, sym, ◌∙◌}
+use Prim.Native.Nat.{ℕ, ◌+◌, ◌-◌, ◌^◌, ◌<◌, ◌≤◌}
 use mathlib.Core.Bool.{Bool, true, false, cond, ◌&&◌, and-false}
 use mathlib.Core.List.{List}
 use native.Mathlib.Omega.{arith}
 use native.Mathlib.Nat.{pow-le-pow_right}
-use borrow.Author.Tests.{le-leb, lt-leb, leb-true}
+use borrow.Author.Tests.{le-leb, lt-leb, leb-true, leb-false}
 use lib.Dec.{leb}
-use lib.ListN.{length, take}
-use lib.Seq.{length-take-le}
+use lib.ListN.{length, take, drop, get_or, length-drop}
+use lib.Seq.{length-take-le, get_or-drop}
+use Rattle.std.proofs.lemmas.List.{get_or-take}
 use Rattle.rules.specs.declared.Event.{Event}
 use Rattle.rules.specs.Lists.{over_at}
 use Rattle.rules.specs.Records.{id_size, id_from, no_event}
@@ -16,6 +17,14 @@ use Rattle.rules.specs.Bytes.{big, read, id_at, event_size, event_at, event_byte
 use Rattle.rules.proofs.Numbers.{Bytes, read_below}
 use Rattle.rules.proofs.Over.{over_size}
 use Rattle.octets.specs.Octets.{get_at, put_at, get_id, get_event, put_event, copied}
+
+-- what the test for room says
+module _ (n at : ℕ) (l : List ℕ) {b : Bool} (e : b ≡ leb (at + n) (length l)) where
+  pub room : b ≡ true → at + n ≤ length l
+  room t = leb-true (at + n) (length l) (sym e ∙ t)
+
+  pub no_room : b ≡ false → length l < at + n
+  no_room f = leb-false (at + n) (length l) (sym e ∙ f)
 
 module _ (n at : ℕ) (l : List ℕ) where
   pub get_inside : n ≤ 8 → at + n ≤ length l → get_at n at l ≡ read n at l
@@ -80,6 +89,17 @@ module _ (at n : ℕ) (from to : List ℕ) where
       by true true g h = over_size at (take n from) to (omega (arith, leb-true (at + n) (length to) h, length-take-le n from (leb-true n (length from) g)))
       by true false g h = refl
       by false t g h = refl
+
+-- the part from `at` to `at + n` and its bytes, as a slice has them
+module _ (n at : ℕ) (l : List ℕ) where
+  part : at + n - at ≡ n
+  part = omega arith
+
+  pub part_size : at + n ≤ length l → length (take (at + n - at) (drop at l)) ≡ n
+  part_size h = rw part (length-take-le n (drop at l) (simp length-drop (omega arith)))
+
+  pub part_byte : (i : ℕ) → i < n → get_or (take (at + n - at) (drop at l)) i 0 ≡ get_or l (at + i) 0
+  part_byte i h = rw (part, get_or-take n (drop at l) i 0 h, get_or-drop)
 
 module _ (l : List ℕ) (b : Bytes l) where
   -- a number of fewer than 8 bytes has room for one more

@@ -2,20 +2,33 @@
 use mathlib.Core.Path.{◌≡◌, refl, sym, ap, ◌∙◌}
 use Prim.Native.Nat.{ℕ, zero, suc, ◌+◌, ◌-◌, ◌/◌, ◌%◌, ◌<◌, ◌≤◌}
 use mathlib.Core.List.{List, [], ◌∷◌, ◌++◌, append_assoc}
-use native.Mathlib.Numerals.{add-one}
 use native.Mathlib.Omega.{arith}
-use lib.ListN.{length, get_or, take, drop, set, length-set, length-append, take-append-drop}
-use lib.Seq.{set_split, take-suc, drop-drop, take-set-le, length-take-le, drop_at}
+use borrow.Rule.Slice.PartMut.{put_mid}
+use native.Mathlib.Numerals.{add-one}
+use lib.ListN.{get_or, length, take, drop, set, length-set, length-append, take-append-drop}
+use lib.Seq.{take-suc, set_split, drop-drop, take-set-le, length-take-le, drop_at}
+use Rattle.std.specs.Int.{bytes_high_first}
 use Rattle.rules.specs.declared.Event.{Event}
 use Rattle.rules.specs.Lists.{over_at}
 use Rattle.rules.specs.Bytes.{big, event_size, event_bytes}
 use Rattle.rules.proofs.Numbers.{big_length}
+use Rattle.octets.proofs.Joins.{high_first}
 use Rattle.rules.proofs.Over.{over_none, over_then, over_size}
 use Rattle.octets.specs.Octets.{put_at, put_event, copied}
 use Rattle.octets.proofs.Fits.{put_inside, put_event_inside, copy_inside}
 
 stored : (l : List ℕ) (k a : ℕ) → k < length l → drop k (set l k a) ≡ a ∷ drop (suc k) l
 stored l k a h = rw (set_split l k a h) (drop_at (take k l) (a ∷ drop (suc k) l) k (length-take-le k l (omega arith)))
+
+-- one element is written over what stands there, and so is a part
+pub set_over : (l : List ℕ) (at x : ℕ) → at < length l → set l at x ≡ over_at at (x ∷ []) l
+set_over l at x h = let behind : suc at ≡ at + 1 = omega arith in set_split l at x h ∙ rw (drop-drop, behind)
+
+pub part_over : (at k : ℕ) (l : List ℕ) {vs ws : List ℕ} → vs ≡ ws → k ≡ length ws → put_mid at k l vs ≡ over_at at ws l
+part_over at k l q e = rw (q, e)
+
+pub written : (at k n x : ℕ) (l : List ℕ) {vs : List ℕ} → k ≡ n → vs ≡ bytes_high_first n x → put_mid at k l vs ≡ over_at at (big n x) l
+written at k n x l e q = part_over at k l (q ∙ high_first n x) (e ∙ sym (big_length n x))
 
 -- of the n bytes of x the last ones stand in the slice, and those of `rest`, i of them, are still to be written
 pub record NumberLeft (old : List ℕ) (at n x : ℕ) (new : List ℕ) (rest i : ℕ) : Type 0 where
@@ -71,8 +84,11 @@ module _ {old : List ℕ} {at : ℕ} {vs new : List ℕ} (w : Wrote old at vs ne
     is = q ∙ rw (w.is, e) (over_then at vs ws old (omega (arith, w.room)));
   }
 
+  pub then_number : (n x : ℕ) → next + n ≤ length old → m ≡ over_at next (big n x) new → Wrote old at (vs ++ big n x) m
+  then_number n x h q = also (big n x) (omega (arith, big_length n x)) q
+
   pub then : (n x : ℕ) → next + n ≤ length old → m ≡ put_at n next x new → Wrote old at (vs ++ big n x) m
-  then n x h q = also (big n x) (omega (arith, big_length n x)) (q ∙ put_inside n next new x (omega (arith, same_size w)))
+  then n x h q = then_number n x h (q ∙ put_inside n next new x (omega (arith, same_size w)))
 
   pub then_copy : (n : ℕ) (from : List ℕ) → n ≤ length from → next + n ≤ length old → m ≡ copied next n from new → Wrote old at (vs ++ take n from) m
   then_copy n from g h q = also (take n from) (omega (arith, length-take-le n from g)) (q ∙ copy_inside next n from new g (omega (arith, same_size w)))
@@ -86,6 +102,4 @@ pub copied_one : {old new : List ℕ} {at : ℕ} (from : List ℕ) (i : ℕ) →
 copied_one {old} {new} {at} from i l h w =
     let x = get_or from i 0 in
     let n : length (take i from) ≡ i = length-take-le i from (omega arith) in
-    let behind : suc (at + i) ≡ at + i + 1 = omega arith in
-    let one : set new (at + i) x ≡ over_at (at + i) (x ∷ []) new = set_split new (at + i) x (omega (arith, same_size w)) ∙ rw (drop-drop, behind) in
-    rw (add-one i, take-suc from i 0 l) (also w (at + i) (omega (arith, n)) (x ∷ []) (omega arith) one)
+    rw (add-one i, take-suc from i 0 l) (also w (at + i) (omega (arith, n)) (x ∷ []) (omega arith) (set_over new (at + i) x (omega (arith, same_size w))))

@@ -1,5 +1,5 @@
 -- A number of n bytes, an id, and an event, from `at` in a slice of any length, read and written; n bytes of one slice copied to another.
-use Rattle.std.specs.Prelude.{ℕ, ◌+◌, cond, ◌&&◌, List, ◌++◌, leb, length, take}
+use Rattle.std.specs.Prelude.{ℕ, ◌+◌, cond, ◌&&◌, List, leb, length, take}
 use Rattle.rules.specs.declared.Id.{Id}
 use Rattle.rules.specs.declared.Event.{Event}
 use Rattle.rules.specs.Lists.{over_at}
@@ -25,10 +25,6 @@ get_event at l = cond (leb (at + event_size) (length l)) (event_at at l) no_even
 -- the bytes of an event over what stands there, if there is room for them all
 unfoldable pub put_event : ℕ → Event → List ℕ → List ℕ
 put_event at e l = cond (leb (at + event_size) (length l)) (over_at at (event_bytes e) l) l
-
--- the last n bytes of four numbers, one behind the other
-abbrev pub four_bytes : (n w x y z : ℕ) → List ℕ
-four_bytes n w x y z = big n w ++ (big n x ++ (big n y ++ big n z))
 
 -- the first n bytes of `from` over what stands in `to` from `at` on, if there are so many and room for them
 unfoldable pub copied : ℕ → ℕ → List ℕ → List ℕ → List ℕ

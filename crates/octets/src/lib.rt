@@ -8,6 +8,7 @@ ghost use Rattle.octets.specs.Octets.{get_at, put_at, get_id, get_event, put_eve
 
 mod numbers;
 
+pub use numbers::Number;
 use rules::{Event, Id};
 
 // Where the fields of an event stand behind its id.
@@ -33,34 +34,20 @@ const DURATION_DRAW: usize = Id::SIZE + 23;
 pub fn has_room(length: usize, at: usize, n: usize) -> bool
     ensures { result ≡ leb (at + n) length }
 {
-    if length < n {
-        return false;
-    }
-    if length - n < at {
-        return false;
-    }
-    true
+    n <= length && at <= length - n
 }
 
 // The number in the n bytes from `at`; 0 if they are more than 8 or not all there.
+// Kept: a width as a number, here and at `put`, beside the methods of `Number`: who calls these needs no proof that the bytes are there.
 pub fn get(b: &[u8], at: usize, n: usize) -> u64
     ensures { result ≡ get_at n at b.now }
 {
-    if 8 < n {
-        return 0;
-    }
-    if b.len() < n {
-        return 0;
-    }
-    if b.len() - n < at {
+    if 8 < n || !has_room(b.len(), at, n) {
         return 0;
     }
     let mut x: u64 = 0;
-    let mut i = 0;
-    while i < n {
-        let byte = b[at + i] as u64;
-        x = x * 256 + byte;
-        i += 1;
+    for byte in &b[at..at + n] {
+        x = x * 256 + *byte as u64;
     }
     x
 }
@@ -69,46 +56,37 @@ pub fn get(b: &[u8], at: usize, n: usize) -> u64
 pub fn put(b: &mut [u8], at: usize, n: usize, x: u64)
     ensures { b.new ≡ put_at n at x b.old }
 {
-    if b.len() < n {
-        return;
-    }
-    if b.len() - n < at {
+    if !has_room(b.len(), at, n) {
         return;
     }
     let mut rest = x;
-    let mut i = n;
-    while 0 < i {
-        i -= 1;
-        b[at + i] = (rest % 256) as u8;
+
+    // Kept: after `for byte in b[at..at + n].iter_mut().rev()` a proof knows how long b is, and no byte of it.
+    for i in (at..at + n).rev() {
+        b[i] = (rest % 256) as u8;
         rest /= 256;
     }
 }
 
 // The same of 8 bytes, without a loop.
+// Kept: docs/CALLS.md names it. `put` of 8 bytes says the same and goes by its loop.
 pub fn put8(b: &mut [u8], at: usize, x: u64)
     ensures { b.new ≡ put_at 8 at x b.old }
 {
-    if b.len() < 8 {
-        return;
+    if has_room(b.len(), at, 8) {
+        x.write_at(b, at);
     }
-    if b.len() - 8 < at {
-        return;
-    }
-    numbers::put_u64(b, at, x);
 }
 
 // The id whose bytes stand at `at`; id 0 if they are not all there.
 pub fn get_id(b: &[u8], at: usize) -> Id
     ensures { result ≡ get_id at b.now }
 {
-    if b.len() < Id::SIZE {
+    if !has_room(b.len(), at, Id::SIZE) {
         return Id::of(0, 0);
     }
-    if b.len() - Id::SIZE < at {
-        return Id::of(0, 0);
-    }
-    let high = get(b, at, Id::HALF);
-    let low = get(b, at + Id::HALF, Id::HALF);
+    let high = u64::read_at(b, at);
+    let low = u64::read_at(b, at + Id::HALF);
     Id::of(high, low)
 }
 
@@ -116,37 +94,31 @@ pub fn get_id(b: &[u8], at: usize) -> Id
 pub fn put_id(out: &mut [u8], at: usize, id: Id)
     ensures { out.new ≡ put_at id_size at (id_number id) out.old }
 {
-    if out.len() < Id::SIZE {
+    if !has_room(out.len(), at, Id::SIZE) {
         return;
     }
-    if out.len() - Id::SIZE < at {
-        return;
-    }
-    numbers::put_u64(out, at, id.upper());
-    numbers::put_u64(out, at + Id::HALF, id.lower());
+    id.upper().write_at(out, at);
+    id.lower().write_at(out, at + Id::HALF);
 }
 
 // The event whose bytes stand at `at`; one with all fields zero if they are not all there.
 pub fn get_event(b: &[u8], at: usize) -> Event
     ensures { result ≡ get_event at b.now }
 {
-    if b.len() < Event::SIZE {
-        return Event::none();
-    }
-    if b.len() - Event::SIZE < at {
+    if !has_room(b.len(), at, Event::SIZE) {
         return Event::none();
     }
     Event {
         id: get_id(b, at),
-        program: numbers::u8_at(b, at + PROGRAM),
-        controls: numbers::u32_at(b, at + CONTROLS),
-        created: numbers::u32_at(b, at + CREATED),
-        start: numbers::u32_at(b, at + START),
-        duration: numbers::u32_at(b, at + DURATION),
-        randomize_start: numbers::u16_at(b, at + RANDOMIZE_START),
-        randomize_duration: numbers::u16_at(b, at + RANDOMIZE_DURATION),
-        start_draw: numbers::u16_at(b, at + START_DRAW),
-        duration_draw: numbers::u16_at(b, at + DURATION_DRAW),
+        program: u8::read_at(b, at + PROGRAM),
+        controls: u32::read_at(b, at + CONTROLS),
+        created: u32::read_at(b, at + CREATED),
+        start: u32::read_at(b, at + START),
+        duration: u32::read_at(b, at + DURATION),
+        randomize_start: u16::read_at(b, at + RANDOMIZE_START),
+        randomize_duration: u16::read_at(b, at + RANDOMIZE_DURATION),
+        start_draw: u16::read_at(b, at + START_DRAW),
+        duration_draw: u16::read_at(b, at + DURATION_DRAW),
     }
 }
 
@@ -154,49 +126,34 @@ pub fn get_event(b: &[u8], at: usize) -> Event
 pub fn put_event(out: &mut [u8], at: usize, e: Event)
     ensures { out.new ≡ put_event at e out.old }
 {
-    if out.len() < Event::SIZE {
-        return;
-    }
-    if out.len() - Event::SIZE < at {
+    if !has_room(out.len(), at, Event::SIZE) {
         return;
     }
     put_id(out, at, e.id);
-    put(out, at + PROGRAM, 1, e.program as u64);
-    numbers::put_four(
-        out,
-        at + CONTROLS,
-        4,
-        e.controls,
-        e.created,
-        e.start,
-        e.duration,
-    );
-    numbers::put_u16s(
-        out,
-        at + RANDOMIZE_START,
-        e.randomize_start,
-        e.randomize_duration,
-        e.start_draw,
-        e.duration_draw,
-    );
+    e.program.write_at(out, at + PROGRAM);
+    e.controls.write_at(out, at + CONTROLS);
+    e.created.write_at(out, at + CREATED);
+    e.start.write_at(out, at + START);
+    e.duration.write_at(out, at + DURATION);
+    e.randomize_start.write_at(out, at + RANDOMIZE_START);
+    e.randomize_duration.write_at(out, at + RANDOMIZE_DURATION);
+    e.start_draw.write_at(out, at + START_DRAW);
+    e.duration_draw.write_at(out, at + DURATION_DRAW);
 }
 
 // Copies the first n bytes of `from` to `to`, from `at` on; leaves `to` alone if there are fewer or there is no room for them.
+// Kept: byte by byte and no `copy_from_slice`, which calls memmove where the count is not known; the archive of x86-64 asks memcpy and memset alone of a host
+// (tests/c.sh). `from` with n, and the places here and above, are public clauses.
 pub fn copy(to: &mut [u8], at: usize, from: &[u8], n: usize)
     ensures { to.new ≡ copied at n from.now to.old }
 {
     if from.len() < n {
         return;
     }
-    if to.len() < n {
+    if !has_room(to.len(), at, n) {
         return;
     }
-    if to.len() - n < at {
-        return;
-    }
-    let mut i = 0;
-    while i < n {
+    for i in 0..n {
         to[at + i] = from[i];
-        i += 1;
     }
 }

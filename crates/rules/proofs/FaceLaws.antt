@@ -2,19 +2,23 @@
 use mathlib.Core.Path.{◌≡◌, refl, sym, ap, ap₂, ◌∙◌}
 use Prim.Native.Nat.{ℕ}
 use mathlib.Core.Bool.{Bool, true, false, cond}
-use mathlib.Core.List.{List, []}
+use mathlib.Core.List.{List, [], ◌∷◌}
+use lib.Dec.{eqb}
 use mathlib.Core.Option.{Option, none, some}
 use native.Mathlib.Omega.{arith}
 use lib.ListN.{length}
+use Rattle.std.specs.Prelude.{get_or, Result, Ok, Err}
 use borrow.Author.Tests.{eq-eqb, ne_eqb, le-ltb}
-use Rattle.rules.specs.declared.Answer.{Answer}
 use Rattle.rules.specs.declared.Entry.{Entry}
 use Rattle.rules.specs.declared.Schedule.{Schedule}
-use Rattle.rules.specs.declared.Answer.TheVariants.{Refused, Code, Count, Holder, Default, Nobody}
+use Rattle.rules.specs.declared.Refusal.{Refusal}
+use Rattle.rules.specs.declared.Refusal.TheVariants.{NoFrame, BrokenRule, NoSuchProgram, AddedBefore, ReservedPrimacy, NotAdded, Malformed, OtherFields, Late, Full, NotHeld, ClockOutOfRange, NoRoom, NoSuchControl, UpperHalf}
+use Rattle.rules.specs.declared.Reply.{Reply}
+use Rattle.rules.specs.declared.Reply.TheVariants.{Code, Count, Holder, Default, Nobody}
 use Rattle.rules.specs.Records.{State, id_from, id_of, differ, fresh, view, pad}
 use Rattle.rules.specs.Image.{image_size, image, loaded, imaged}
 use Rattle.rules.specs.Refusals.{find}
-use Rattle.rules.specs.Calls.{program, event, cancellation, decision, question, Call, bare, set_clock, list, received, cancel_code, choice_code, does, accepts, accepted, refused, Governor, by_event, by_program, by_none, Value, nothing, code, count, governor, number_of, value_of, call}
+use Rattle.rules.specs.Calls.{program, event, cancellation, decision, question, Call, bare, set_clock, list, received, cancel_code, choice_code, does, accepts, accepted, refused, Governor, by_event, by_program, by_none, Value, nothing, code, count, governor, refusal_number, number_of, value_of, call}
 use Rattle.rules.specs.Face.{Operation, as_call, answer_bytes, id_too_long, shown, negative, lent_after, face, face_fresh}
 use Rattle.rules.specs.Clauses.{AnswerFits, AnswerClause, FaceClauses, ImageKept}
 use Rattle.rules.proofs.Tests.{both}
@@ -25,25 +29,66 @@ use Rattle.rules.proofs.Images.{fresh_fits, image_kept}
 
 -- Answers.
 
+-- the refusals at their numbers; none has number 0
+abbrev refusals : List Refusal
+refusals =
+    NoFrame ∷ NoFrame ∷ BrokenRule ∷ NoSuchProgram ∷ AddedBefore ∷ ReservedPrimacy ∷ NotAdded ∷ Malformed ∷ OtherFields ∷ Late ∷ Full ∷ NotHeld
+    ∷ ClockOutOfRange ∷ NoRoom ∷ NoSuchControl ∷ UpperHalf ∷ []
+
 -- the answer that a number and a value stand for
-abbrev governor_answer : Governor → Answer
-governor_answer (by_event i) = Holder (id_from i)
-governor_answer (by_program p) = Default p
-governor_answer by_none = Nobody
+abbrev governor_reply : Governor → Reply
+governor_reply (by_event i) = Holder (id_from i)
+governor_reply (by_program p) = Default p
+governor_reply by_none = Nobody
 
-abbrev answer_of : ℕ → Value → Answer
-answer_of n nothing = Refused n
-answer_of n (code k) = Code k
-answer_of n (count k) = Count k
-answer_of n (governor g) = governor_answer g
+abbrev answer_of : ℕ → Value → Result Reply Refusal
+answer_of n nothing = Err (get_or refusals n NoFrame)
+answer_of n (code k) = Ok (Code k)
+answer_of n (count k) = Ok (Count k)
+answer_of n (governor g) = Ok (governor_reply g)
 
-read_back : (a : Answer) → AnswerFits a → answer_of (number_of a) (value_of a) ≡ a
-read_back (Refused n) f = refl
-read_back (Code k) f = refl
-read_back (Count k) f = refl
-read_back (Holder i) f = ap Holder (id_number_lem i f)
-read_back (Default p) f = refl
-read_back Nobody f = refl
+-- a refusal has a number
+pub some_number : (e : Refusal) → eqb (refusal_number e) 0 ≡ false
+some_number NoFrame = refl
+some_number BrokenRule = refl
+some_number NoSuchProgram = refl
+some_number AddedBefore = refl
+some_number ReservedPrimacy = refl
+some_number NotAdded = refl
+some_number Malformed = refl
+some_number OtherFields = refl
+some_number Late = refl
+some_number Full = refl
+some_number NotHeld = refl
+some_number ClockOutOfRange = refl
+some_number NoRoom = refl
+some_number NoSuchControl = refl
+some_number UpperHalf = refl
+
+refusal_back : (e : Refusal) → get_or refusals (refusal_number e) NoFrame ≡ e
+refusal_back NoFrame = refl
+refusal_back BrokenRule = refl
+refusal_back NoSuchProgram = refl
+refusal_back AddedBefore = refl
+refusal_back ReservedPrimacy = refl
+refusal_back NotAdded = refl
+refusal_back Malformed = refl
+refusal_back OtherFields = refl
+refusal_back Late = refl
+refusal_back Full = refl
+refusal_back NotHeld = refl
+refusal_back ClockOutOfRange = refl
+refusal_back NoRoom = refl
+refusal_back NoSuchControl = refl
+refusal_back UpperHalf = refl
+
+read_back : (a : Result Reply Refusal) → AnswerFits a → answer_of (number_of a) (value_of a) ≡ a
+read_back (Ok (Code k)) f = refl
+read_back (Ok (Count k)) f = refl
+read_back (Ok (Holder i)) f = ap (λ x. Ok (Holder x)) (id_number_lem i f)
+read_back (Ok (Default p)) f = refl
+read_back (Ok Nobody) f = refl
+read_back (Err e) f = ap Err (refusal_back e)
 
 pub answer_clause : AnswerClause
 answer_clause = record { apart = λ a b f g m n. sym (read_back a f) ∙ ap₂ answer_of m n ∙ read_back b g }

@@ -6,6 +6,8 @@ use mathlib.Core.Bool.{Bool, true, false, ◌&&◌, ◌||◌}
 use native.Mathlib.Omega.{arith}
 use native.Mathlib.Nat.{suc-mul, mul-le-mul_right, div-lt_iff_lt-mul, mod-lt}
 use lib.Dec.{eqb, ltb}
+use Rattle.std.specs.Ordering.{nat_cmp, ordering_then, is_lt}
+use Rattle.std.proofs.lemmas.Bool.Decides.{nat_tests}
 use borrow.Author.Tests.{ltb-true, ltb-false, eqb-true, eqb-false, lt-ltb, le-ltb, eq-eqb, ne_eqb}
 use Rattle.rules.specs.declared.Id.{Id}
 use Rattle.rules.specs.Records.{half_limit, id_limit, halves, id_number, id_from, IdFits}
@@ -41,6 +43,10 @@ unfolding id_from
 from_fits n h = ((div-lt_iff_lt-mul {k = half_limit} {x = n} {y = half_limit} (omega arith)).1 h, mod-lt n (omega arith))
 
 -- id 0
+pub zero_halves : record { high = 0; low = 0 } ≡ id_from 0
+unfolding id_from
+zero_halves = refl
+
 pub zero_number : (i : Id) → id_number i ≡ 0 → i ≡ id_from 0
 unfolding id_number id_from
 zero_number i e = λ k. record { high = (let z : i.high ≡ 0 = omega (arith, e) in z) k; low = (let z : i.low ≡ 0 = omega (arith, e) in z) k }
@@ -63,6 +69,14 @@ module _ (high low high' low' : ℕ) (f : low < half_limit) (g : low' < half_lim
       by false true true p q r = sym (lt-ltb (halves high low) (halves high' low') (omega (arith, eqb-true high high' q, ltb-true low low' r)))
       by false true false p q r = sym (le-ltb (halves high low) (halves high' low') (omega (arith, eqb-true high high' q, ltb-false low low' r)))
       by false false c p q r = sym (le-ltb (halves high low) (halves high' low') (omega (arith, ltb-false high high' p, eqb-false high high' q)))
+
+-- two numbers in the order of their halves: the upper ones decide, and where they are equal the lower ones
+pub compared_halves : (a b : ℕ) → ordering_then (nat_cmp (a / half_limit) (b / half_limit)) (nat_cmp (a % half_limit) (b % half_limit)) ≡ nat_cmp a b
+compared_halves a b = grind (arith, nat_tests)
+
+-- whether a number comes before another in the order of numbers
+pub before : (x y : ℕ) → is_lt (nat_cmp x y) ≡ ltb x y
+before x y = grind (arith, nat_tests)
 
 -- the upper halves decide, and where they are equal the lower ones
 pub below_number : (a b : Id) → IdFits a → IdFits b → id_number a < id_number b ↔ ((a.high < b.high) ⊎ ((a.high ≡ b.high) × (a.low < b.low)))

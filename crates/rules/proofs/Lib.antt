@@ -7,6 +7,7 @@ pub mod Over  -- one list written over a part of another
 pub mod Copying  -- what is copied one by one over the front of a list
 pub mod Masks  -- control by control: what is in a mask that was cut or joined
 pub mod IdLaws  -- an id is its number: all that is known of an id's inside
+pub mod Same  -- what the derived comparisons of records say
 -- Who holds what, second by second.
 pub mod Claims  -- who claims nothing, and what the rows of a moment depend on
 pub mod Local  -- what comes later, has ended or is added changes nothing up to a moment

@@ -1,4 +1,5 @@
 -- Laws of lists: what is kept, where a thing is put, membership, and that ascending lists with the same members are equal.
+use Rattle.std.specs.List.{list_all}
 use mathlib.Core.Path.{◌≡◌, refl, sym, ap, ap₂, ◌∙◌, subst}
 use mathlib.Core.Logic.{◌⊎◌, inl, inr, ⊎_elim}
 use Prim.Native.Nat.{ℕ, zero, suc, ◌+◌, ◌<◌, ◌≤◌}
@@ -274,3 +275,8 @@ module _ {A : Type 0} where
   -- whether each from a place on passes a test: the one that stands there, and those behind it
   pub each_more : (p : A → Bool) (d : A) (xs : List A) (i : ℕ) → i < length xs → each p (drop i xs) ≡ (p (get_or xs i d) && each p (drop (i + 1) xs))
   each_more p d xs i h = let e : i + 1 ≡ suc i = omega arith in rw (e, drop-cons xs i d h)
+
+-- the library's word for `each`
+pub all_is_each : {A : Type 0} (p : A → Bool) (xs : List A) → list_all p xs ≡ each p xs
+all_is_each p [] = refl
+all_is_each p (x ∷ xs) = ap (◌&&◌ (p x)) (all_is_each p xs)

@@ -1,14 +1,18 @@
 -- What calls answer: number and value of each answer, codes, holders, defaults, rows, listings, cancellations, choices. Each script starts from the fresh schedule.
-use Rattle.std.specs.Prelude.{◌≡◌, ℕ, ◌/◌, ◌%◌, Bool, true, false, ◌&&◌, List, [], ◌∷◌, ◌++◌, map, replicate}
+use Rattle.std.specs.Prelude.{◌≡◌, ℕ, ◌/◌, ◌%◌, Bool, true, false, ◌&&◌, List, [], ◌∷◌, ◌++◌, map, replicate, Result, Ok, Err}
 use Rattle.rules.specs.declared.Choice.{Choice}
 use Rattle.rules.specs.declared.Event.{Event}
 use Rattle.rules.specs.declared.Record.{Record}
 use Rattle.rules.specs.declared.Primacy.{Primacy}
 use Rattle.rules.specs.declared.Primacy.TheVariants.{Usable, Reserved}
-use Rattle.rules.specs.declared.Answer.{Answer}
-use Rattle.rules.specs.declared.Answer.TheVariants.{Refused, Code, Count, Holder, Default, Nobody}
+use Rattle.rules.specs.declared.Refusal.{Refusal}
+use Rattle.rules.specs.declared.Refusal.TheVariants.{NoFrame, BrokenRule, NoSuchProgram, AddedBefore, ReservedPrimacy, NotAdded, Malformed, OtherFields, Late, Full, NotHeld, ClockOutOfRange, NoRoom, NoSuchControl, UpperHalf}
+use Rattle.rules.specs.declared.Reply.{Reply}
+use Rattle.rules.specs.declared.Reply.TheVariants.{Code, Count, Holder, Default, Nobody}
+use Rattle.rules.specs.declared.Response.{Response}
+use Rattle.rules.specs.declared.Response.TheVariants.{Silent, Received, Started, Completed, OptedOut, OptedIn, Cancelled, Superseded, PartlyOut, PartlyIn, NotTaken}
 use Rattle.rules.specs.Records.{primacy_is, fresh, pad, id_from, event_of}
-use Rattle.rules.specs.Calls.{add_program, deliver, cancel, opt_out, opt_in, set_clock, ask, list, nothing, code, count, holder, default, nobody, number_of, value_of, counted}
+use Rattle.rules.specs.Calls.{add_program, deliver, cancel, opt_out, opt_in, set_clock, ask, list, nothing, code, count, holder, default, nobody, refusal_number, response_number, number_of, value_of, counted}
 use Rattle.rules.specs.Script.{value_numbers, Step, scripts_hold, ◌answers◌, ◌refused◌}
 use Rattle.rules.specs.Marks.{minus, undrawn, choice, unheld, stayed_in, same, replies}
 
@@ -292,8 +296,17 @@ call_table =
     ∷ []
 
 -- the number and the value of each answer
-abbrev answer_numbers : Answer → List ℕ
+abbrev answer_numbers : Result Reply Refusal → List ℕ
 answer_numbers a = number_of a ∷ value_numbers (value_of a)
+
+-- each refusal by ascending number, and each response
+abbrev refusals : List Refusal
+refusals =
+    NoFrame ∷ BrokenRule ∷ NoSuchProgram ∷ AddedBefore ∷ ReservedPrimacy ∷ NotAdded ∷ Malformed ∷ OtherFields ∷ Late ∷ Full ∷ NotHeld ∷ ClockOutOfRange ∷ NoRoom
+    ∷ NoSuchControl ∷ UpperHalf ∷ []
+
+abbrev responses : List Response
+responses = Silent ∷ Received ∷ Started ∷ Completed ∷ OptedOut ∷ OptedIn ∷ Cancelled ∷ Superseded ∷ PartlyOut ∷ PartlyIn ∷ NotTaken ∷ []
 
 -- 1 for a primacy that may be used
 abbrev usable_number : Primacy → ℕ
@@ -303,13 +316,15 @@ usable_number Reserved = 0
 -- with the count of each value, and the ends of what primacies may be used
 unfoldable pub answers_hold : Bool
 answers_hold =
-    same (answer_numbers (Refused 13)) (13 ∷ value_numbers nothing)
-    && same (answer_numbers (Code 6)) (0 ∷ value_numbers (code 6))
-    && same (answer_numbers (Count 96)) (0 ∷ value_numbers (count 96))
-    && same (answer_numbers (Holder (id_from 9))) (0 ∷ value_numbers (holder 9))
-    && same (answer_numbers (Holder (record { high = 1; low = 2 }))) (0 ∷ value_numbers (holder first))
-    && same (answer_numbers (Default 7)) (0 ∷ value_numbers (default 7))
-    && same (answer_numbers Nobody) (0 ∷ value_numbers nobody)
+    same (answer_numbers (Err NoRoom)) (13 ∷ value_numbers nothing)
+    && same (answer_numbers (Ok (Code 6))) (0 ∷ value_numbers (code 6))
+    && same (answer_numbers (Ok (Count 96))) (0 ∷ value_numbers (count 96))
+    && same (answer_numbers (Ok (Holder (id_from 9)))) (0 ∷ value_numbers (holder 9))
+    && same (answer_numbers (Ok (Holder (record { high = 1; low = 2 })))) (0 ∷ value_numbers (holder first))
+    && same (answer_numbers (Ok (Default 7))) (0 ∷ value_numbers (default 7))
+    && same (answer_numbers (Ok Nobody)) (0 ∷ value_numbers nobody)
+    && same (map refusal_number refusals) (1 ∷ 2 ∷ 3 ∷ 4 ∷ 5 ∷ 6 ∷ 7 ∷ 8 ∷ 9 ∷ 10 ∷ 11 ∷ 12 ∷ 13 ∷ 14 ∷ 15 ∷ [])
+    && same (map response_number responses) (0 ∷ 1 ∷ 2 ∷ 3 ∷ 4 ∷ 5 ∷ 6 ∷ 7 ∷ 8 ∷ 9 ∷ 10 ∷ [])
     && same (map counted (nothing ∷ code 6 ∷ count 96 ∷ holder 9 ∷ default 7 ∷ nobody ∷ [])) (0 ∷ 0 ∷ 96 ∷ 0 ∷ 0 ∷ 0 ∷ [])
     && same (map (λ p. usable_number (primacy_is p)) (2 ∷ 3 ∷ 64 ∷ 65 ∷ 191 ∷ 192 ∷ [])) (1 ∷ 0 ∷ 0 ∷ 1 ∷ 1 ∷ 0 ∷ [])
 

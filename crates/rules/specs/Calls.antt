@@ -1,13 +1,17 @@
 -- Calls: the eight, as one function from a schedule by value and a call to what the call gives and leaves.
-use Rattle.std.specs.Prelude.{ℕ, suc, ◌*◌, Bool, true, false, cond, not, ◌&&◌, ◌||◌, List, [], ◌∷◌, ◌++◌, map, leb, eqb, length, take, set}
+use Rattle.std.specs.Prelude.{ℕ, suc, ◌*◌, Bool, true, false, cond, not, ◌&&◌, ◌||◌, List, [], ◌∷◌, ◌++◌, map, leb, eqb, length, take, set, Result, Ok, Err}
 use Rattle.std.proofs.Math.Option.{Option, none, some}
 use Rattle.rules.specs.declared.Event.{Event}
 use Rattle.rules.specs.declared.Entry.{Entry}
 use Rattle.rules.specs.declared.Record.{Record}
 use Rattle.rules.specs.declared.Program.{Program}
 use Rattle.rules.specs.declared.Schedule.{Schedule}
-use Rattle.rules.specs.declared.Answer.{Answer}
-use Rattle.rules.specs.declared.Answer.TheVariants.{Refused, Code, Count, Holder, Default, Nobody}
+use Rattle.rules.specs.declared.Refusal.{Refusal}
+use Rattle.rules.specs.declared.Refusal.TheVariants.{NoFrame, BrokenRule, NoSuchProgram, AddedBefore, ReservedPrimacy, NotAdded, Malformed, OtherFields, Late, Full, NotHeld, ClockOutOfRange, NoRoom, NoSuchControl, UpperHalf}
+use Rattle.rules.specs.declared.Response.{Response}
+use Rattle.rules.specs.declared.Response.TheVariants.{Silent, Received, Started, Completed, OptedOut, OptedIn, Cancelled, Superseded, PartlyOut, PartlyIn, NotTaken}
+use Rattle.rules.specs.declared.Reply.{Reply}
+use Rattle.rules.specs.declared.Reply.TheVariants.{Code, Count, Holder, Default, Nobody}
 use Rattle.rules.specs.Lists.{insert, over}
 use Rattle.rules.specs.Records.{State, id_number, id_of, has, no_choice, differ, view, pad}
 use Rattle.rules.specs.Period.{earliest_start, period_of}
@@ -74,23 +78,55 @@ default p = governor (by_program p)
 abbrev pub nobody : Value
 nobody = governor by_none
 
--- Form by location, answers that are enums: document 01's number for each case, 0 if the call was accepted
-abbrev pub number_of : Answer → ℕ
-number_of (Refused n) = n
-number_of (Code k) = 0
-number_of (Count n) = 0
-number_of (Holder i) = 0
-number_of (Default p) = 0
-number_of Nobody = 0
+-- Numbers given, the number of each refusal
+abbrev pub refusal_number : Refusal → ℕ
+refusal_number NoFrame = 1
+refusal_number BrokenRule = 2
+refusal_number NoSuchProgram = 3
+refusal_number AddedBefore = 4
+refusal_number ReservedPrimacy = 5
+refusal_number NotAdded = 6
+refusal_number Malformed = 7
+refusal_number OtherFields = 8
+refusal_number Late = 9
+refusal_number Full = 10
+refusal_number NotHeld = 11
+refusal_number ClockOutOfRange = 12
+refusal_number NoRoom = 13
+refusal_number NoSuchControl = 14
+refusal_number UpperHalf = 15
 
--- Form by location, answers that are enums: document 01's value for each case
-abbrev pub value_of : Answer → Value
-value_of (Refused n) = nothing
-value_of (Code k) = code k
-value_of (Count n) = count n
-value_of (Holder i) = holder (id_number i)
-value_of (Default p) = default p
-value_of Nobody = nobody
+-- Response codes, the number of each; document 02, #102: 4 and 5, 8 to 10
+abbrev pub response_number : Response → ℕ
+response_number Silent = 0
+response_number Received = 1
+response_number Started = 2
+response_number Completed = 3
+response_number OptedOut = 4
+response_number OptedIn = 5
+response_number Cancelled = 6
+response_number Superseded = 7
+response_number PartlyOut = 8
+response_number PartlyIn = 9
+response_number NotTaken = 10
+
+-- Form by location, answers that are enums: document 01's value for each reply
+abbrev pub reply_value : Reply → Value
+reply_value (Code k) = code k
+reply_value (Count n) = count n
+reply_value (Holder i) = holder (id_number i)
+reply_value (Default p) = default p
+reply_value Nobody = nobody
+
+-- Form by location, answers that are enums: document 01's number for each case, 0 if the call was accepted
+abbrev pub number_of : Result Reply Refusal → ℕ
+number_of (Ok r) = 0
+number_of (Err e) = refusal_number e
+
+-- Form by location, answers that are enums: document 01's value for each case, whatever says why a call was refused
+abbrev pub value_of : {E : Type 0} → Result Reply E → Value
+value_of (Ok r) = reply_value r
+value_of (Err e) = nothing
 
 -- what an accepted call gives and leaves
 pub record Done : Type 0 where

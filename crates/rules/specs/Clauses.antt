@@ -1,11 +1,12 @@
 -- Sentences of documents 01 and 02 on times, holding, rows and states, said of the definitions. Each field is one clause; all are proved (promise `clauses`).
 -- `ps` are the programs, `ts` all events of a history, and Holds t c x says that the event x holds the control c at moment t.
-use Rattle.std.specs.Prelude.{◌≡◌, ◌↔◌, ◌⊎◌, ℕ, zero, suc, ◌+◌, ◌*◌, ◌<◌, ◌≤◌, min, Bool, true, false, cond, not, ◌||◌, List, [], ◌∷◌, ◌++◌, map, eqb, length, replicate}
+use Rattle.std.specs.Prelude.{◌≡◌, ◌↔◌, ◌⊎◌, ℕ, zero, suc, ◌+◌, ◌*◌, ◌<◌, ◌≤◌, min, Bool, true, false, cond, not, ◌||◌, List, [], ◌∷◌, ◌++◌, map, eqb, length, replicate, Result, Ok, Err}
 use Rattle.std.proofs.Math.Option.{none, some}
 use Rattle.rules.specs.declared.Id.{Id}
 use Rattle.rules.specs.declared.Event.{Event}
-use Rattle.rules.specs.declared.Answer.{Answer}
-use Rattle.rules.specs.declared.Answer.TheVariants.{Refused, Code, Count, Holder, Default, Nobody}
+use Rattle.rules.specs.declared.Refusal.{Refusal}
+use Rattle.rules.specs.declared.Reply.{Reply}
+use Rattle.rules.specs.declared.Reply.TheVariants.{Code, Count, Holder, Default, Nobody}
 use Rattle.rules.specs.declared.Entry.{Entry}
 use Rattle.rules.specs.declared.Program.{Program}
 use Rattle.rules.specs.declared.Record.{Record}
@@ -296,17 +297,17 @@ pub record DefaultClause : Type 0 where
   pub nobody : (ps : List Program) (c : ℕ) → best_default c 0 ps ≡ none ↔ ((n : ℕ) → Offers ps c n → ⊥)
 
 -- the halves of an id in an answer fit, as those of every answer by value do
-abbrev pub AnswerFits : Answer → Type 0
-AnswerFits (Refused n) = Unit {0}
-AnswerFits (Code k) = Unit {0}
-AnswerFits (Count n) = Unit {0}
-AnswerFits (Holder i) = IdFits i
-AnswerFits (Default p) = Unit {0}
-AnswerFits Nobody = Unit {0}
+abbrev pub AnswerFits : Result Reply Refusal → Type 0
+AnswerFits (Ok (Code k)) = Unit {0}
+AnswerFits (Ok (Count n)) = Unit {0}
+AnswerFits (Ok (Holder i)) = IdFits i
+AnswerFits (Ok (Default p)) = Unit {0}
+AnswerFits (Ok Nobody) = Unit {0}
+AnswerFits (Err e) = Unit {0}
 
 -- Form by location, answers that are enums: their numbers and values tell them apart
 pub record AnswerClause : Type 0 where
-  pub apart : (a b : Answer) → AnswerFits a → AnswerFits b → number_of a ≡ number_of b → value_of a ≡ value_of b → a ≡ b
+  pub apart : (a b : Result Reply Refusal) → AnswerFits a → AnswerFits b → number_of a ≡ number_of b → value_of a ≡ value_of b → a ≡ b
 
 -- Frames and image, C hosts
 pub record FaceClauses : Type 0 where

@@ -51,7 +51,8 @@ pub struct Id {
 }
 
 // Records. A program in its place, which is its number.
-#[derive(Clone, Copy)]
+// Kept: a flag beside the fields and no Option, as the rules of an image speak of the fields of a program that was not added (`sound_program`).
+#[derive(Clone, Copy, PartialEq, Eq)]
 pub struct Program {
     pub added: bool,
     pub primacy: u8,
@@ -59,7 +60,7 @@ pub struct Program {
 }
 
 // Records. Whether a primacy may be used.
-#[derive(Clone, Copy)]
+#[derive(Clone, Copy, PartialEq, Eq)]
 pub enum Primacy {
     Usable,
     Reserved,
@@ -67,7 +68,7 @@ pub enum Primacy {
 
 // Records. An event. In memory its program comes before its id: an array of unused entries is then filled by a loop, which the compiler else writes out 48 times
 // over wherever it stands.
-#[derive(Clone, Copy)]
+#[derive(Clone, Copy, PartialEq, Eq)]
 pub struct Event {
     pub program: u8,
     pub id: Id,
@@ -92,6 +93,7 @@ pub struct Period {
 }
 
 // A time that was worked out, with the record handed back.
+// Kept: document 01 names this form (Form by location, effective end), and `dated` of the public clauses says it; so a time alone does not do.
 #[derive(Clone, Copy)]
 pub struct Dated {
     pub time: u64,
@@ -99,7 +101,8 @@ pub struct Dated {
 }
 
 // Document 02, #102. The user's choice on a held event: whether the user is out now, was in for a second in which it held something, was out for one.
-#[derive(Clone, Copy)]
+// Kept: three truths, as `choice_byte` and the rules of an image name them, and no flag that says whether a value is there.
+#[derive(Clone, Copy, PartialEq, Eq)]
 pub struct Choice {
     pub out: bool,
     pub was_in: bool,
@@ -107,7 +110,7 @@ pub struct Choice {
 }
 
 // Frames and image. An event that is held: its effective start, the controls that it holds now, whether it is cancelled, the user's choice.
-#[derive(Clone, Copy)]
+#[derive(Clone, Copy, PartialEq, Eq)]
 pub struct Entry {
     pub event: Event,
     pub begins: u64,
@@ -124,6 +127,7 @@ pub struct Record {
 }
 
 // Records. The state that goes into each call and comes out of it.
+// Kept: an array with a count beside it, as there is no heap, and the rules of an image speak of the places that are not in use (`unused`).
 #[derive(Clone, Copy)]
 pub struct Schedule {
     pub clock: u64,
@@ -132,16 +136,56 @@ pub struct Schedule {
     pub entries: [Entry; Schedule::EVENTS],
 }
 
-// What a call answers.
-#[derive(Clone, Copy)]
-pub enum Answer {
-    Refused(u8),
+// Numbers given: why a call is refused.
+#[derive(Clone, Copy, PartialEq, Eq)]
+pub enum Refusal {
+    NoFrame = 1,
+    BrokenRule = 2,
+    NoSuchProgram = 3,
+    AddedBefore = 4,
+    ReservedPrimacy = 5,
+    NotAdded = 6,
+    Malformed = 7,
+    OtherFields = 8,
+    Late = 9,
+    Full = 10,
+    NotHeld = 11,
+    ClockOutOfRange = 12,
+    NoRoom = 13,
+    NoSuchControl = 14,
+    // Document 02, #105.
+    UpperHalf = 15,
+}
+
+// Response codes, those of calls and those of rows; `Silent` is for none. Document 02, #102: the two of choices and the last three.
+#[derive(Clone, Copy, PartialEq, Eq)]
+pub enum Response {
+    Silent = 0,
+    Received = 1,
+    Started = 2,
+    Completed = 3,
+    OptedOut = 4,
+    OptedIn = 5,
+    Cancelled = 6,
+    Superseded = 7,
+    PartlyOut = 8,
+    PartlyIn = 9,
+    NotTaken = 10,
+}
+
+// What an accepted call gives: a response code, a count, or what governs a control.
+// Kept: a code as its number, since `text::told` takes every number and has a text for each; a `Response` would ask more of its callers.
+#[derive(Clone, Copy, PartialEq, Eq)]
+pub enum Reply {
     Code(u8),
     Count(usize),
     Holder(Id),
     Default(u8),
     Nobody,
 }
+
+// What a call answers.
+pub type Answer = Result<Reply, Refusal>;
 
 // A frame of a line.
 #[derive(Clone, Copy)]
@@ -155,6 +199,7 @@ pub enum Frame {
     OptIn(Id),
 }
 
+// Kept: an enum of its own and no Option, as document 01 names this form (Form by location, frames), and `decode_encoded` and `long_line` speak of it.
 #[derive(Clone, Copy)]
 pub enum Line {
     Good(Frame),
@@ -230,11 +275,13 @@ impl Entry {
 impl Record {
     // Frames and image, C hosts. Bytes of a listed record: the entry, and 8 of the earliest start.
     pub const SIZE: usize = Entry::SIZE + 8;
+}
+
+impl From<Entry> for Record {
+    ghost from_gives = { λ h r. r ≡ record_of h };
 
     // Calls, list: the record of a held event.
-    pub fn of(entry: Entry) -> Record
-        ensures { result ≡ record_of entry }
-    {
+    fn from(entry: Entry) -> Record {
         let earliest = entry.event.earliest_start();
         Record {
             entry,

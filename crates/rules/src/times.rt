@@ -1,17 +1,18 @@
 // What is read off a record by value: an event's times and whether its fields are in range, an answer's number and count.
 ghost use Rattle.std.specs.Prelude.{◌≡◌, ◌+◌, ◌<◌, ◌^◌, min, max};
+ghost use Rattle.rules.specs.declared.Reply.TheVariants.{Code};
 ghost use Rattle.rules.specs.Records.{primacy_is, last_clock};
 ghost use Rattle.rules.specs.Period.{lift, plus, drawn_start, effective_end, earliest_start, period_of, dated};
-ghost use Rattle.rules.specs.Sound.{outside, drawn, out_of_range, malformed, same_event};
-ghost use Rattle.rules.specs.Calls.{number_of, value_of, counted};
+ghost use Rattle.rules.specs.Sound.{outside, drawn, out_of_range, malformed};
+ghost use Rattle.rules.specs.Calls.{refusal_number, response_number, reply_value, value_of, counted};
 
-use crate::{Answer, Dated, Event, Period, Primacy, Schedule};
+use crate::{Dated, Event, Period, Primacy, Refusal, Reply, Response, Schedule};
 
-impl Primacy {
+impl From<u8> for Primacy {
+    ghost from_gives = { λ primacy p. p ≡ primacy_is primacy };
+
     // Records, primacy: the ranges that may be used.
-    pub fn of(primacy: u8) -> Primacy
-        ensures { result ≡ primacy_is primacy }
-    {
+    fn from(primacy: u8) -> Primacy {
         match primacy {
             0..=2 | 65..=191 => Primacy::Usable,
             _ => Primacy::Reserved,
@@ -20,6 +21,7 @@ impl Primacy {
 }
 
 // 16 bits of two's complement, moved up by 32,768.
+// Kept: the definitions `lift` and `plus` read a field as 16 bits, and C hosts hand it in as such; a signed type would give both another meaning.
 pub(crate) fn lifted(b: u16) -> u64
     ensures { result ≡ lift b }
 {
@@ -31,30 +33,7 @@ pub(crate) fn moved(n: u64, b: u16) -> u64
     requires { n < 2 ^ 40 }
     ensures { result ≡ plus n b }
 {
-    let sum = n + lifted(b);
-    if sum < 32768 {
-        return 0;
-    }
-    sum - 32768
-}
-
-pub(crate) fn later(a: u64, b: u64) -> u64
-    ensures { result ≡ max a b }
-{
-    if a < b {
-        return b;
-    }
-    a
-}
-
-// The earlier of two times.
-pub fn earlier(a: u64, b: u64) -> u64
-    ensures { result ≡ min a b }
-{
-    if a < b {
-        return a;
-    }
-    b
+    (n + lifted(b)).saturating_sub(32768)
 }
 
 // Numbers given, 7: a randomisation beyond an hour either way.
@@ -71,7 +50,7 @@ pub(crate) fn is_drawn(r: u16, d: u16) -> bool
 {
     let y = lifted(r);
     let z = lifted(d);
-    (earlier(y, 32768) <= z) & (z <= later(y, 32768))
+    (y.min(32768) <= z) & (z <= y.max(32768))
 }
 
 // Numbers given, 7: the conditions on single fields.
@@ -88,22 +67,6 @@ pub(crate) fn is_out_of_range(e: Event) -> bool
 }
 
 impl Event {
-    // Whether two events are the same in every field.
-    pub fn equals(self, other: Event) -> bool
-        ensures { result ≡ same_event self other }
-    {
-        self.id.equals(other.id)
-            & (self.program == other.program)
-            & (self.controls == other.controls)
-            & (self.created == other.created)
-            & (self.start == other.start)
-            & (self.duration == other.duration)
-            & (self.randomize_start == other.randomize_start)
-            & (self.randomize_duration == other.randomize_duration)
-            & (self.start_draw == other.start_draw)
-            & (self.duration_draw == other.duration_draw)
-    }
-
     // Numbers given, 7: whether a field or a draw is outside its range, or the drawn duration below 1.
     pub fn is_malformed(self) -> bool
         ensures { result ≡ malformed self }
@@ -124,7 +87,7 @@ impl Event {
         let drawn_start = moved(start, start_draw);
         // No term of the clause: document 01's effective start, not before receipt + 1. A late receipt moves this alone; one beyond the last reading counts as
         // that reading.
-        let effective_start = later(drawn_start, earlier(receipt, Schedule::LAST_CLOCK) + 1);
+        let effective_start = drawn_start.max(receipt.min(Schedule::LAST_CLOCK) + 1);
         // Duration.
         let duration = self.duration as u64;
         // Duration Randomization, as the client applies it: the draw, within the bound randomizeDuration.
@@ -167,38 +130,58 @@ impl Event {
     {
         let start = self.start as u64;
         Dated {
-            time: earlier(start, moved(start, self.randomize_start)),
+            time: start.min(moved(start, self.randomize_start)),
             event: self,
         }
     }
 }
 
-impl Answer {
-    // The number of a refusal, 0 of any other answer.
+impl Refusal {
+    // Numbers given: the number of a refusal.
+    // Kept: a method here and one of `Response`, each a cast of its own variants. A trait for the two, or a `From` for each with its clause once more as a ghost
+    // member, would be longer.
     pub fn number(self) -> u8
-        ensures { result ≡ number_of self }
+        ensures { result ≡ refusal_number self }
     {
-        match self {
-            Answer::Refused(n) => n,
-            Answer::Code(_) => 0,
-            Answer::Count(_) => 0,
-            Answer::Holder(_) => 0,
-            Answer::Default(_) => 0,
-            Answer::Nobody => 0,
-        }
+        self as u8
     }
+}
 
+impl Response {
+    // Response codes: the number that a host sends.
+    pub fn number(self) -> u8
+        ensures { result ≡ response_number self }
+    {
+        self as u8
+    }
+}
+
+impl From<Response> for Reply {
+    ghost from_gives = { λ r reply. reply ≡ Code (response_number r) };
+
+    fn from(response: Response) -> Reply {
+        Reply::Code(response.number())
+    }
+}
+
+impl Reply {
     // How much an answer counts, 0 if it counts nothing.
     pub fn count(self) -> usize
-        ensures { result ≡ counted (value_of self) }
+        ensures { result ≡ counted (reply_value self) }
     {
         match self {
-            Answer::Count(n) => n,
-            Answer::Refused(_) => 0,
-            Answer::Code(_) => 0,
-            Answer::Holder(_) => 0,
-            Answer::Default(_) => 0,
-            Answer::Nobody => 0,
+            Reply::Count(n) => n,
+            _ => 0,
         }
+    }
+}
+
+// How much an answer counts, whatever says why a call was refused: 0 of a refusal.
+pub fn counted<E: Drop>(answer: Result<Reply, E>) -> usize
+    ensures { result ≡ counted (value_of answer) }
+{
+    match answer {
+        Ok(reply) => reply.count(),
+        Err(_) => 0,
     }
 }

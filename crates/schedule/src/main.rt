@@ -3,125 +3,66 @@
 
 #![tactic(auto)]
 
-ghost use Rattle.std.specs.Prelude.{◌≡◌, length};
-ghost use Rattle.input.specs.Kept.{buffer_size};
-ghost use Rattle.schedule.specs.Pieces.{CanPrint, CanGoOn, Leaves, Rests};
+ghost use Rattle.std.specs.Prelude.{◌≡◌, ◌≤◌, true, length, MatchResult};
+ghost use Rattle.rules.specs.Sound.{sound};
+ghost use Rattle.text.specs.Texts.{most_text};
+ghost use Rattle.schedule.specs.Pieces.{Leaves};
 
+use input::Lines;
 use rules::Schedule;
-use std::io::{Read, Write};
+use std::io::Write;
 
-// The input is read in pieces of up to so many bytes, and there is room for as many bytes of texts.
+// Room for texts.
 const BUFFER: usize = 65536;
 
-// What the lines of a piece left: the schedule, how many bytes they were, and whether their texts could be written.
-#[derive(Clone, Copy)]
-struct Piece {
-    schedule: Schedule,
-    read: usize,
-    written: bool,
-}
-
-// Runs over all lines that end in a piece, and writes their texts. The schedule and the bytes that it leaves go on where the texts of these lines stop.
-fn print_lines(writer: &mut impl Write, mut s: Schedule, piece: &[u8], out: &mut [u8]) -> Piece
-    requires { CanPrint s out.old }
-    ensures { Leaves s piece.now result }
+// Runs over all lines that end in a piece, and writes their texts. How many bytes these lines were: the bytes behind them go on, with the schedule, where the texts
+// of these lines stop. In an error so many bytes were taken, but the texts of their last lines could not be written.
+fn print_lines(
+    writer: &mut impl Write,
+    s: &mut Schedule,
+    piece: &[u8],
+    out: &mut [u8],
+) -> Result<usize, usize>
+    requires kept_rules { sound s.old ≡ true }
+    requires room { most_text ≤ length out.old }
+    ensures kept_rules { sound s.new ≡ true }
+    ensures taken { MatchResult result (Leaves s.old piece.now s.new) (λ read. read ≤ length piece.now) }
 {
     let mut from = 0;
+    // Kept: no `for`, as where the next run begins is where the one before ended.
     loop {
-        let ran = calls::run(s, &piece[from..], out);
-        let next = ran.schedule;
-        s = next;
-        let answer = ran.answer;
+        let ran = calls::run(*s, &piece[from..], out);
+        *s = ran.schedule;
         // No refusal, since the schedule is sound: how many bytes the run wrote.
-        let n = answer.count();
+        let n = rules::times::counted(ran.answer);
         if writer.write_all(&out[..n]).is_err() {
-            return Piece {
-                schedule: s,
-                read: from,
-                written: false,
-            };
+            return Err(from);
         }
         if ran.read == 0 {
-            return Piece {
-                schedule: s,
-                read: from,
-                written: true,
-            };
+            return Ok(from);
         }
         from += ran.read;
     }
 }
 
-// How it goes on after a piece of input: with how much of a line, and whether at all.
-#[derive(Clone, Copy)]
-struct Rest {
+// A schedule that is sound, and room for texts.
+#[derive(Drop)]
+struct Scheduler {
     schedule: Schedule,
-    kept: usize,
-    more: bool,
+    out: [u8; BUFFER],
+    ghost kept_rules: { sound schedule ≡ true },
 }
 
-// Reads a piece behind what is kept of a line. No byte more is the end of the input, and so is a read that fails.
-fn take_turn(
-    reader: &mut impl Read,
-    writer: &mut impl Write,
-    s: Schedule,
-    kept: usize,
-    buffer: &mut [u8],
-    out: &mut [u8],
-) -> Rest
-    requires { CanGoOn s kept buffer.old out.old }
-    ensures { Rests result }
-{
-    let to = kept + reader.read(&mut buffer[kept..]).unwrap_or(0);
-    if to == kept {
-        return Rest {
-            schedule: s,
-            kept,
-            more: false,
-        };
-    }
-    let piece = print_lines(writer, s, &buffer[..to], out);
-    let schedule = piece.schedule;
-    Rest {
-        schedule,
-        kept: input::keep(buffer, piece.read, to),
-        more: piece.written,
+impl Lines for Scheduler {
+    fn print(&mut self, writer: &mut impl Write, piece: &[u8]) -> Result<usize, usize> {
+        print_lines(writer, &mut self.schedule, piece, &mut self.out)
     }
 }
 
-// The last line may lack its line feed.
-fn finish(writer: &mut impl Write, s: Schedule, kept: usize, buffer: &mut [u8], out: &mut [u8])
-    requires { CanGoOn s kept buffer.old out.old }
-{
-    if 0 < kept {
-        buffer[kept] = b'\n';
-        let end = kept + 1;
-        print_lines(writer, s, &buffer[..end], out);
-    }
-}
-
-// Room for a piece of the input, or for texts.
-fn no_bytes() -> [u8; BUFFER]
-    ensures { buffer_size ≡ length result }
-{
-    [0; BUFFER]
-}
-
-// `turns` begins with more than any run takes.
 fn main(rt: HostRuntime) {
-    let mut reader = rt.stdin();
-    let mut writer = rt.stdout();
-    let mut buffer = no_bytes();
-    let mut out = no_bytes();
-    let mut s = Schedule::fresh();
-    let mut kept = 0;
-    let mut turns = u64::MAX;
-    while 0 < turns {
-        let t = take_turn(&mut reader, &mut writer, s, kept, &mut buffer, &mut out);
-        let next = t.schedule;
-        s = next;
-        kept = t.kept;
-        turns = input::left(turns, t.more);
-    }
-    finish(&mut writer, s, kept, &mut buffer, &mut out);
+    let mut scheduler = Scheduler {
+        schedule: Schedule::fresh(),
+        out: [0; BUFFER],
+    };
+    input::run(&mut rt.stdin(), &mut rt.stdout(), &mut scheduler);
 }

@@ -1,14 +1,16 @@
 -- A pass from the back tests what the definition tests of each pair: an id below the next one is below all after it, since < carries over, and a mask
 -- that shares nothing with the union of those after it shares nothing with any of them.
 use mathlib.Core.Path.{◌≡◌, refl, sym, ap, ◌∙◌}
-use Prim.Native.Nat.{ℕ, suc, ◌-◌, ◌<◌, ◌≤◌}
-use mathlib.Core.Bool.{Bool, true, false, not, ◌&&◌, ◌||◌, and-false, or-true}
-use mathlib.Core.List.{List, [], ◌∷◌}
+use Prim.Native.Nat.{ℕ}
+use mathlib.Core.Bool.{Bool, true, false, ◌&&◌, ◌||◌, and-false, or-true}
+use mathlib.Core.List.{List, [], ◌∷◌, ◌++◌}
+use lib.ListN.{length}
+use Rattle.std.proofs.lemmas.List.{nil_from_length}
 use native.Mathlib.Omega.{arith}
 use borrow.Author.Tests.{ltb-true, lt-ltb, eq-eqb, ne_eqb, eqb-true, eqb-false}
-use lib.Dec.{ltb, eqb}
-use lib.ListN.{length, take, drop, get_or, length-take, drop_of_length-le}
-use lib.Seq.{drop-cons, get_or-take}
+use lib.Dec.{eqb}
+use Rattle.std.specs.Prelude.{Option, Some, None}
+use Rattle.rules.specs.declared.Id.{Id}
 use Rattle.rules.specs.declared.Program.{Program}
 use Rattle.rules.specs.declared.Entry.{Entry}
 use Rattle.rules.specs.Lists.{each, pairs}
@@ -16,27 +18,16 @@ use Rattle.rules.specs.Records.{id_of, has, cut, join}
 use Rattle.rules.specs.Sound.{ascending, apart, sound_entry}
 use Rattle.rules.proofs.ListLaws.{each_all, all_each}
 use Rattle.rules.proofs.Masks.{has_join, not_has, cut_apart, apart_cut}
-use Rattle.sound.specs.HeldRules.{held_rules}
+use Rattle.sound.specs.HeldRules.{precedes, clear, held_rules}
 
--- what the pass keeps of the entries that it has passed: whether there are any, the first one's id, and all that they hold
-abbrev some : List Entry → Bool
-some [] = false
-some (h ∷ hs) = true
-
-abbrev first_id : List Entry → ℕ
-first_id [] = 0
-first_id (h ∷ hs) = id_of h.event
+-- what the pass keeps of the entries that it has passed: the first one's id if there are any, and all that they hold
+abbrev first_id : List Entry → Option Id
+first_id [] = None
+first_id (h ∷ hs) = Some h.event.id
 
 abbrev held_by : List Entry → ℕ
 held_by [] = 0
 held_by (h ∷ hs) = join h.held (held_by hs)
-
--- what it tests of an entry against those
-abbrev precedes : Bool → ℕ → Entry → Bool
-precedes more next h = not more || ltb (id_of h.event) next
-
-abbrev clear : ℕ → Entry → Bool
-clear used h = eqb (cut h.held used) h.held
 
 -- Ids.
 
@@ -56,7 +47,7 @@ implied false y z w f = refl
 implied true false z w f = sym (and-false z)
 implied true true z w f = rw (f refl refl)
 
-ids_ascend : (h : Entry) (hs : List Entry) → precedes (some hs) (first_id hs) h && pairs ascending hs ≡ each (ascending h) hs && pairs ascending hs
+ids_ascend : (h : Entry) (hs : List Entry) → precedes (first_id hs) h && pairs ascending hs ≡ each (ascending h) hs && pairs ascending hs
 unfolding ascending
 ids_ascend h [] = refl
 ids_ascend h (o ∷ os) = implied (ascending h o) (each (ascending o) os) (each (ascending h) os) (pairs ascending os) (below h o os)
@@ -94,34 +85,25 @@ regroup true true true x y z = refl
 
 module _ (ps : List Program) (clock : ℕ) where
   -- what the loop's variables say of the entries passed
-  pub record EntriesPassed (hs : List Entry) (ok : Bool) (used : ℕ) (more : Bool) (next : ℕ) : Type 0 where
+  pub record EntriesPassed (hs : List Entry) (ok : Bool) (used : ℕ) (next : Option Id) : Type 0 where
     pub kept : ok ≡ held_rules ps clock hs
     pub union : used ≡ held_by hs
-    pub any : more ≡ some hs
     pub first : next ≡ first_id hs
 
-  pub start : (n : ℕ) (xs : List Entry) → EntriesPassed (drop n (take n xs)) true 0 false 0
-  start n xs =
-      rw (drop_of_length-le (take n xs) {i = n} (simp length-take (omega arith)))
-      (record { kept = refl; union = refl; any = refl; first = refl })
+  pub start : EntriesPassed [] true 0 None
+  start = record { kept = refl; union = refl; first = refl }
 
-  -- the entry before place i: its own rules, and those with the entries passed
-  module _ (n i : ℕ) (xs : List Entry) (d : Entry) (here : 0 < i) (within : i ≤ n) (room : n ≤ length xs) where
-    one_more : drop (i - 1) (take n xs) ≡ get_or xs (i - 1) d ∷ drop i (take n xs)
-    one_more =
-        let e : suc (i - 1) ≡ i = omega arith in
-        drop-cons (take n xs) (i - 1) d (simp length-take (omega arith)) ∙ rw (e, get_or-take n xs (i - 1) d (omega arith))
+  -- the entry before them: its own rules, and those with the entries passed
+  pub turn : (h : Entry) (hs : List Entry) {own before ok : Bool} {used : ℕ} {next : Option Id}
+      → own ≡ sound_entry ps clock h → before ≡ precedes next h && clear used h
+      → EntriesPassed hs ok used next → EntriesPassed (h ∷ hs) (own && (before && ok)) (join h.held used) (Some h.event.id)
+  turn h hs o b p =
+      record {
+        kept = rw (o, b, p.kept, p.union, p.first, regroup, ids_ascend h hs, masks_apart h hs);
+        union = ap (join h.held) p.union;
+        first = refl;
+      }
 
-    pub turn : {own before ok more : Bool} {used next : ℕ} → let h = get_or xs (i - 1) d in
-        own ≡ sound_entry ps clock h → before ≡ precedes more next h && clear used h
-        → EntriesPassed (drop i (take n xs)) ok used more next → EntriesPassed (drop (i - 1) (take n xs)) (own && (before && ok)) (join h.held used) true (id_of h.event)
-    turn o b p =
-        let h = get_or xs (i - 1) d in
-        let hs = drop i (take n xs) in
-        rw one_more
-        (record {
-          kept = rw (o, b, p.kept, p.union, p.any, p.first, regroup, ids_ascend h hs, masks_apart h hs);
-          union = ap (join h.held) p.union;
-          any = refl;
-          first = refl;
-        })
+-- with nothing left, all have been passed
+pub all_passed : {held : List Entry} (left passed : List Entry) → held ≡ left ++ passed → length left ≡ 0 → passed ≡ held
+all_passed left passed e z = sym (e ∙ ap (λ xs. xs ++ passed) (nil_from_length left z))

@@ -1,4 +1,3 @@
 -- What belongs to no one function.
 pub mod Primacies  -- primacies that may be used
-pub mod Forward  -- a pass from the front
 pub mod Backward  -- a pass from the back

@@ -9,7 +9,8 @@ use borrow.Author.Tests.{lt-ltb, le-ltb}
 use lib.Dec.{ltb}
 use lib.ListN.{length}
 use Rattle.rules.specs.Printed.{decimal}
-use Rattle.text.specs.Texts.{Stands, padded}
+use Rattle.text.specs.declared.writing.Text.{Text}
+use Rattle.text.specs.Texts.{Adds, padded}
 use Rattle.text.proofs.Printing.{put_then}
 
 -- one digit, and one behind the others
@@ -49,8 +50,8 @@ module _ (f : ℕ → ℕ → List ℕ) (least : ℕ) (last : (n x : ℕ) → le
       (append_assoc (f m a) (padded k (b / 10)) ((48 + b % 10) ∷ []))
 
   -- the digits of the front and then k of the rest
-  pub put_front : (m k x : ℕ) {l p n : List ℕ} {at i j : ℕ} → least ≤ 10 * (x / 10 ^ k) → at ≤ length l → Stands l at (f m (x / 10 ^ k)) p i
-      → Stands p i (padded k (x % 10 ^ k)) n j → Stands l at (f (m + k) x) n j
-  put_front m k x s h t u =
+  pub put_front : (m k x : ℕ) {t u v : Text} → least ≤ 10 * (x / 10 ^ k) → t.at ≤ length t.out.now → Adds t (f m (x / 10 ^ k)) u → Adds u (padded k (x % 10 ^ k)) v
+      → Adds t (f (m + k) x) v
+  put_front m k x s h p q =
       let e = join m k (x / 10 ^ k) (x % 10 ^ k) s (mod-lt x (one-le-pow k 10 (omega arith))) in
-      rw (rw (div-add-mod' x (10 ^ k)) at e) (put_then h t u)
+      rw (rw (div-add-mod' x (10 ^ k)) at e) (put_then h p q)

@@ -6,13 +6,14 @@
 ghost use Rattle.std.specs.Prelude.{◌≡◌, ◌+◌, cond, ◌&&◌, [], leb, eqb, length};
 ghost use Rattle.rules.specs.Records.{most_rows};
 ghost use Rattle.rules.specs.Bytes.{rows_size};
-ghost use Rattle.rules.specs.Calls.{Outcome, number_of, value_of, counted};
+ghost use Rattle.rules.specs.Calls.{Outcome, value_of, counted};
 ghost use Rattle.rules.specs.Printed.{refused_text, frame_text};
-ghost use Rattle.text.specs.Texts.{Stands, most_refused, most_text, if_room};
+ghost use Rattle.text.specs.Texts.{Stands, most_refused, most_text, number_told, if_room};
 
 mod writing;
 
-use rules::{Answer, Frame};
+use rules::{Frame, Reply};
+use writing::Text;
 
 // The most decimal digits of a number, and of an id.
 const DIGITS: usize = 20;
@@ -28,18 +29,30 @@ const ROW: usize = DIGITS + 1 + ID_DIGITS + 1 + DIGITS + 1;
 pub const MOST: usize = rules::MOST_ROWS * ROW;
 
 // Frames and image: refused n.
+// Kept: a place beside the buffer, here and at `told`: that is their public signature. Inside the two are one `Text`.
 pub fn refused(out: &mut [u8], at: usize, n: u8) -> usize
     ensures { Stands out.old at (if_room most_refused at out.old (refused_text n)) out.new result }
 {
     if !octets::has_room(out.len(), at, REFUSED) {
         return at;
     }
-    writing::refused(out, at, n)
+    let mut text = Text { out, at };
+    text.refused(n);
+    text.at
 }
 
-// Frames and image. What a frame's call gives to print. `clock` is the schedule's before the call, `rows` the buffer that a clock reading was lent.
-pub fn told(out: &mut [u8], at: usize, clock: u64, f: Frame, answer: Answer, rows: &[u8]) -> usize
-    ensures { (o : Outcome) → o.number ≡ number_of answer → o.value ≡ value_of answer → o.bytes ≡ rows.now
+// Frames and image. What a frame's call gives to print: what it replied, or the number that it was refused with. `clock` is the schedule's before the call,
+// `rows` the buffer that a clock reading was lent.
+// Kept: a refusal comes as its number, here and at `refused`, and every number has its text; a `Refusal` would ask more of callers than the promise does.
+pub fn told(
+    out: &mut [u8],
+    at: usize,
+    clock: u64,
+    f: Frame,
+    answer: Result<Reply, u8>,
+    rows: &[u8],
+) -> usize
+    ensures { (o : Outcome) → o.number ≡ number_told answer → o.value ≡ value_of answer → o.bytes ≡ rows.now
         → Stands out.old at
         (cond (eqb (length rows.now) rows_size && leb (counted o.value) most_rows)
         (if_room most_text at out.old (cond (eqb o.number 0) (frame_text clock f o) (refused_text o.number))) []) out.new result }
@@ -47,11 +60,13 @@ pub fn told(out: &mut [u8], at: usize, clock: u64, f: Frame, answer: Answer, row
     if rows.len() != rules::ROWS_SIZE {
         return at;
     }
-    if rules::MOST_ROWS < answer.count() {
+    if rules::MOST_ROWS < rules::times::counted(answer) {
         return at;
     }
     if !octets::has_room(out.len(), at, MOST) {
         return at;
     }
-    writing::told(out, at, clock, f, answer, rows)
+    let mut text = Text { out, at };
+    text.told(clock, f, answer, rows);
+    text.at
 }

@@ -1,7 +1,7 @@
 -- By what the line is.
 use mathlib.Core.Path.{◌≡◌, refl, sym, ap, ◌∙◌}
 use Prim.Native.Nat.{ℕ}
-use mathlib.Core.List.{List}
+use mathlib.Core.List.{List, append-nil}
 use mathlib.Core.Option.{some}
 use native.Mathlib.Omega.{arith}
 use Rattle.rules.specs.declared.Frame.{Frame}
@@ -44,15 +44,13 @@ pub narrow-requires : goal.narrow-requires
 narrow-requires c =
     let a = c.args in
     let n = with_id a.line.now a.to _ (shape_is a.line.now a.to c.shape_of.ensures c.other_than.ensures) c.in-WithId.is c.in-Short.is in
-    let line = id_line id_size _ n.frame n.id n.good n.has in
-    record { long = omega (arith, line.long); short = omega (arith, line.short) }
+    omega (arith, (id_line id_size _ n.frame n.id n.good n.has).long)
 
 pub widen-requires : goal.widen-requires
 widen-requires c =
     let a = c.args in
     let n = with_id a.line.now a.to _ (shape_is a.line.now a.to c.shape_of.ensures c.other_than.ensures) c.in-WithId.is c.in-Long.is in
-    let line = id_line half_size _ n.frame n.id n.good n.has in
-    record { long = omega (arith, line.long); short = omega (arith, line.short) }
+    omega (arith, (id_line half_size _ n.frame n.id n.good n.has).long)
 
 pub returns-in-NoFrame : goal.returns-in-NoFrame
 returns-in-NoFrame c =
@@ -65,7 +63,7 @@ returns-in-WithoutId c =
     let a = c.args in
     let shape = shape_is a.line.now a.to c.shape_of.ensures c.other_than.ensures in
     let f = shape_without _ (sym shape ∙ c.in-WithoutId.is) in
-    c.pass.ensures ∙ as_turned a.line.now a.at a.out.now ∙ ap (λ t. turned_at t a.at a.out.now) (sym (turned_without a.to a.line.now f.0 f.1 f.2))
+    c.write.ensures ∙ ap (λ l. written_at l a.at a.out.now) (append-nil a.line.now) ∙ as_turned a.line.now a.at a.out.now ∙ ap (λ t. turned_at t a.at a.out.now) (sym (turned_without a.to a.line.now f.0 f.1 f.2))
 
 pub returns-in-Short : goal.returns-in-Short
 returns-in-Short c =

@@ -1,17 +1,22 @@
 -- There is room for a line feed behind any turned line, and for any refusal.
-use native.Mathlib.Omega.{arith}
+use mathlib.Core.Path.{◌≡◌, ap}
 use Prim.Native.Nat.{◌+◌}
-use borrow.Author.Tests.{eq-eqb, ne_eqb, le-leb}
+use mathlib.Core.Bool.{true}
+use native.Mathlib.Omega.{arith}
+use borrow.Author.Tests.{le-leb}
+use lib.Dec.{leb}
 use lib.ListN.{length}
+use Rattle.rules.specs.Calls.{value_of, counted}
 use Rattle.text.specs.Texts.{most_refused}
 use Rattle.text.proofs.Printing.{put_one}
+use Rattle.rules.proofs.FaceLaws.{some_number}
 use Rattle.converter.proofs.end_text.Goals as goal
 
-pub returns-then-number-eq0 : goal.returns-then-number-eq0
-returns-then-number-eq0 c = rw (eq-eqb _ 0 c.if-number-eq0.true) (put_one 10 (omega arith))
+pub returns-in-Ok : goal.returns-in-Ok
+returns-in-Ok c = rw (c.in-Ok.is, ← c.count.ensures) (put_one 10 (omega (arith, c.count.ensures, ap (λ a. counted (value_of a)) c.in-Ok.is)))
 
-pub returns : goal.returns
-returns c =
+pub returns-in-Err : goal.returns-in-Err
+returns-in-Err c =
     let a = c.args in
-    let room = le-leb (a.at + most_refused) (length a.out.now) (omega arith) in
-    rw (ne_eqb a.number 0 c.if-number-eq0.false) (rw room at c.refused.ensures)
+    let room : leb (a.at + most_refused) (length a.out.now) ≡ true = le-leb (a.at + most_refused) (length a.out.now) (omega arith) in
+    rw (c.in-Err.is, some_number c.in-Err.refusal) (rw (room, c.number.ensures) at c.refused.ensures)

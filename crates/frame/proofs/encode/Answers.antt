@@ -1,7 +1,8 @@
 -- A buffer that is too short is left alone; in any other the pairs of the frame's bytes stand at the front.
-use mathlib.Core.Path.{◌≡◌, refl, ap, ◌∙◌}
+use mathlib.Core.Path.{◌≡◌, refl, sym, ap, ◌∙◌}
 use Prim.Native.Nat.{◌*◌}
 use native.Mathlib.Omega.{arith}
+use lib.Seq.{length-take-le}
 use Rattle.rules.specs.Records.{id_size}
 use Rattle.frame.specs.Decoded.{size_of}
 use Rattle.frame.specs.Encoded.{kind_of, encoded}
@@ -18,9 +19,17 @@ returns-then-out-size c =
     let a = c.args in
     encoded_short a.f a.out.now _ (ap (◌*◌ 2) (is-size)) c.if-out-size.true
 
+-- the array has room for the frame's bytes
+pub slice_bounds-bytes-end : goal.slice_bounds-bytes-end
+slice_bounds-bytes-end c = omega (arith, size_bound id_size c.kind_of-kind.result, c.size_of-size.ensures)
+
+pub slice_bounds-put_pairs-end : goal.slice_bounds-put_pairs-end
+slice_bounds-put_pairs-end c = sym (length-take-le c.size_of-size.result _ (omega (arith, size_bound id_size c.kind_of-kind.result, c.size_of-size.ensures)))
+
 pub put_pairs-requires : goal.put_pairs-requires
 put_pairs-requires c =
-    record { there = omega (arith, size_bound id_size c.kind_of-kind.result, c.size_of-size.ensures); room = c.if-out-size.false }
+    let all = length-take-le c.size_of-size.result c.put-2.new.b (omega (arith, size_bound id_size c.kind_of-kind.result, c.size_of-size.ensures)) in
+    omega (arith, c.if-out-size.false, all)
 
 pub returns : goal.returns
 unfolding encoded

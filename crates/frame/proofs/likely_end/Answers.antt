@@ -12,6 +12,7 @@ use Rattle.frame.specs.Ends.{likely_end}
 use Rattle.frame.specs.declared.Width.{Width}
 use Rattle.frame.proofs.ByKind.{width_size}
 use Rattle.frame.proofs.Ends.{likely_is}
+use Rattle.frame.proofs.likely_end.Goals.{else-end-text-via-then-end-text+else-text-end-eq10, else-end-text-via-else-end-text}
 use Rattle.frame.proofs.likely_end.Goals as goal
 
 pub overflow_mul-end : goal.overflow_mul-end
@@ -32,20 +33,16 @@ returns-then-text-end-eq10 c =
     rw (looked a.width text c.size_of-end.ensures c.first.ensures, lt-ltb end (length text) (omega arith), eq-eqb (get_or text end 0) 10 c.if-text-end-eq10.true) in
     record { found = likely_is _ text is; is = is }
 
-pub returns-else-text-end-eq10 : goal.returns-else-text-end-eq10
+pub returns : goal.returns
 unfolding likely_end
-returns-else-text-end-eq10 c =
+returns c =
     let a = c.args in
     let text = a.text.now in
+    let end = 2 * c.size_of-end.result in
     let is : 0 ≡ likely_end (width_of a.width) text =
-    rw (looked a.width text c.size_of-end.ensures c.first.ensures, ne_eqb (get_or text (2 * c.size_of-end.result) 0) 10 c.if-text-end-eq10.false, and-false) in
-    record { found = likely_is _ text is; is = is }
-
-pub returns-else-end-text : goal.returns-else-end-text
-unfolding likely_end
-returns-else-end-text c =
-    let a = c.args in
-    let text = a.text.now in
-    let is : 0 ≡ likely_end (width_of a.width) text =
-    rw (looked a.width text c.size_of-end.ensures c.first.ensures, le-ltb (2 * c.size_of-end.result) (length text) (omega arith)) in
+    rw (looked a.width text c.size_of-end.ensures c.first.ensures)
+    (elim c.else-end-text.branch [
+      | else-end-text-via-then-end-text+else-text-end-eq10 w ↦ rw (ne_eqb (get_or text end 0) 10 w.if-text-end-eq10.false, and-false)
+      | else-end-text-via-else-end-text w ↦ rw (le-ltb end (length text) w.if-end-text.false)
+    ]) in
     record { found = likely_is _ text is; is = is }

@@ -1,17 +1,36 @@
-use mathlib.Core.Path.{◌∙◌}
+-- The first line feed's place, or the length.
+use mathlib.Core.Path.{◌≡◌, refl, ap, ◌∙◌}
+use mathlib.Core.List.{List}
+use mathlib.Core.Bool.{cond}
+use Prim.Native.Nat.{ℕ}
 use native.Mathlib.Omega.{arith}
-use Rattle.frame.proofs.Ends.{up_to_feed, up_to_more, up_to_end}
+use borrow.Author.Tests.{tests, ltb-false}
+use borrow.Table.Steps.{cases}
+use lib.Dec.{eqb, ltb}
+use lib.ListN.{length}
+use Rattle.std.proofs.Common.{rules, Some, None}
+use Rattle.std.specs.List.{position_or_len}
+use Rattle.std.specs.Option.{unwrap_or}
+use Rattle.std.proofs.lemmas.Iterator.{YieldsList-from_slice}
+use Rattle.std.proofs.lemmas.Iterator.Search.{position_from_yields_List}
+use Rattle.std.proofs.lemmas.List.Recursion.{is_position_or_len}
+use Rattle.frame.specs.Ends.{up_to}
+use Rattle.frame.proofs.Ends.{up_to_within}
 use Rattle.frame.proofs.line_end.Goals as goal
 
-pub returns-then-text-i-eq10 : goal.returns-then-text-i-eq10
-returns-then-text-i-eq10 c =
-    let l = c.loop-i in
-    omega (arith, l.invariant, up_to_feed c.args.text.now l.i c.loop-i-test.true c.if-text-i-eq10.true)
+is-up_to : (l : List ℕ) → up_to l ≡ position_or_len (λ b. eqb b 10) l
+unfolding up_to
+is-up_to l = is_position_or_len up_to (λ b. eqb b 10) refl (λ b bs. ap (λ n. cond (eqb b 10) 0 n) (omega arith)) l
 
-pub loop-i-preserved : goal.loop-i-preserved
-loop-i-preserved c =
-    let l = c.loop-i in
-    l.invariant ∙ up_to_more _ l.i c.loop-i-test.true c.if-text-i-eq10.false
+found : (l : List ℕ) → unwrap_or (cond (ltb (up_to l) (length l)) (Some (up_to l)) None) (length l) ≡ up_to l
+found l =
+    cases (ltb (up_to l) (length l))
+    (λ q. rw q)
+    (λ q. rw q (omega (arith, up_to_within l, ltb-false (up_to l) (length l) q)))
 
 pub returns : goal.returns
-returns c = let l = c.loop-i in omega (arith, l.invariant, up_to_end c.args.text.now l.i c.loop-i-test.false)
+returns c =
+    let text = c.args.text.now in
+    let place : c.position.result ≡ cond (ltb (position_or_len (λ b. eqb b 10) text) (length text)) (Some (position_or_len (λ b. eqb b 10) text)) None =
+    position_from_yields_List (λ b. eqb b 10) _ _ c.position.result c.position.ensures.ran (YieldsList-from_slice text cc) (λ x b q k. search (rules, tests)) in
+    c.unwrap_or.ensures ∙ rw (place, ← is-up_to text) (found text)

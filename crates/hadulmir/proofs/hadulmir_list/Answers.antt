@@ -18,26 +18,26 @@ use Rattle.hadulmir.proofs.Unstored.{listed_short, listed_all}
 use Rattle.hadulmir.proofs.hadulmir_list.Invariants.{recorded}
 use Rattle.hadulmir.proofs.hadulmir_list.Goals as goal
 
-pub returns-then-not-read : goal.returns-then-not-read
-returns-then-not-read c =
+pub returns-in_default : goal.returns-in_default
+returns-in_default c =
     let a = c.args in
-    unread a.image.now c.read-read.ensures c.if-not-read.true _ a.records.now c.negative.ensures
+    unread a.image.now c.read.ensures c.in_default.is _ a.records.now c.negative.ensures
 
 pub returns-then-not-is_sound : goal.returns-then-not-is_sound
 returns-then-not-is_sound c =
-    let known : Formed c.args.image.now c.read-read.result = formed_as _ c.read-read.ensures c.if-not-read.false in
+    let known : Formed c.args.image.now c.in-Some.s = formed_as _ c.read.ensures c.in-Some.is in
     unimaged _ (is_imaged known c.is_sound.ensures ∙ c.if-not-is_sound.true) _ _ c.negative-then-not-is_sound.ensures
 
 pub overflow_mul-n : goal.overflow_mul-n
 overflow_mul-n c =
-    let kept : sound c.read-read.result.schedule ≡ true = sym c.is_sound.ensures ∙ c.if-not-is_sound.false in
+    let kept : sound c.in-Some.s ≡ true = sym c.is_sound.ensures ∙ c.if-not-is_sound.false in
     omega (arith, (rules _ kept).count)
 
 pub returns-then-records-n : goal.returns-then-records-n
 returns-then-records-n c =
-    let known : Formed c.args.image.now c.read-read.result = formed_as _ c.read-read.ensures c.if-not-read.false in
+    let known : Formed c.args.image.now c.in-Some.s = formed_as _ c.read.ensures c.in-Some.is in
     let are_bytes : Bytes c.args.image.now = λ i. omega (arith, c.type_inv.image i) in
-    let kept : sound c.read-read.result.schedule ≡ true = sym c.is_sound.ensures ∙ c.if-not-is_sound.false in
+    let kept : sound c.in-Some.s ≡ true = sym c.is_sound.ensures ∙ c.if-not-is_sound.false in
     listed_short known are_bytes _ kept c.if-records-n.true c.negative-then-records-n.ensures
 
 pub loop-i-init : goal.loop-i-init
@@ -46,37 +46,32 @@ loop-i-init c = (omega arith, refl, refl)
 
 pub bounds-s-i : goal.bounds-s-i
 bounds-s-i c =
-    let kept : sound c.read-read.result.schedule ≡ true = sym c.is_sound.ensures ∙ c.if-not-is_sound.false in
+    let kept : sound c.in-Some.s ≡ true = sym c.is_sound.ensures ∙ c.if-not-is_sound.false in
     omega (arith, (rules _ kept).count)
-
-pub overflow_add-i : goal.overflow_add-i
-overflow_add-i c =
-    let kept : sound c.read-read.result.schedule ≡ true = sym c.is_sound.ensures ∙ c.if-not-is_sound.false in
-    omega (arith, c.loop-i-test.true, (rules _ kept).count)
 
 pub loop-i-preserved : goal.loop-i-preserved
 loop-i-preserved c =
-    let kept : sound c.read-read.result.schedule ≡ true = sym c.is_sound.ensures ∙ c.if-not-is_sound.false in
+    let kept : sound c.in-Some.s ≡ true = sym c.is_sound.ensures ∙ c.if-not-is_sound.false in
     let l = c.loop-i in
-    let hs = c.read-read.result.schedule.entries in
+    let hs = c.in-Some.s.entries in
     let full = rules _ kept in
-    let inside = record_inside (record_size * l.i) c.of.result l.records (omega (arith, c.if-records-n.false)) in
+    let inside = record_inside (record_size * l.i) c.from.result l.records (omega (arith, c.if-records-n.false)) in
     let at : record_size * l.i ≡ 0 + record_size * l.i = omega arith in
-    let one = c.put_record.ensures ∙ inside ∙ ap₂ (λ k x. over_at k (record_bytes x) l.records) at c.of.ensures in
+    let one = c.put_record.ensures ∙ inside ∙ ap₂ (λ k x. over_at k (record_bytes x) l.records) at c.from.ensures in
     (omega arith, omega arith, wrote_more recorded record_size (λ h. record_size_lem (record_of h)) hs 0 c.args.records.now _ l.i (omega (arith, full.count, full.full)) (omega arith) l.invariant.2 one)
 
 pub overflow_cast-result : goal.overflow_cast-result
 overflow_cast-result c =
-    let kept : sound c.read-read.result.schedule ≡ true = sym c.is_sound.ensures ∙ c.if-not-is_sound.false in
+    let kept : sound c.in-Some.s ≡ true = sym c.is_sound.ensures ∙ c.if-not-is_sound.false in
     omega (arith, (rules _ kept).count)
 
 pub returns : goal.returns
 returns c =
-    let known : Formed c.args.image.now c.read-read.result = formed_as _ c.read-read.ensures c.if-not-read.false in
+    let known : Formed c.args.image.now c.in-Some.s = formed_as _ c.read.ensures c.in-Some.is in
     let are_bytes : Bytes c.args.image.now = λ i. omega (arith, c.type_inv.image i) in
-    let kept : sound c.read-read.result.schedule ≡ true = sym c.is_sound.ensures ∙ c.if-not-is_sound.false in
+    let kept : sound c.in-Some.s ≡ true = sym c.is_sound.ensures ∙ c.if-not-is_sound.false in
     let l = c.loop-i in
-    let s = c.read-read.result.schedule in
+    let s = c.in-Some.s in
     let lent = c.args.records.now in
     let done : l.i ≡ s.count = omega arith in
     let written = l.invariant.2 ∙ ap (λ k. over (flat recorded (take k s.entries)) lent) done ∙ ap (λ v. over v lent) (sym (flat_map record_bytes record_of (view s).entries)) in

@@ -9,7 +9,7 @@ unfolding store_outcome
 returns-then-write c =
     let a = c.args in
     let p = written_as a.s a.out.now c.write.ensures in
-    rw (sym c.is_sound.ensures ∙ c.if-is_sound.true, sym p.fits ∙ c.if-write.true, p.leaves, c.if-write.true)
+    rw (sym c.is_sound.ensures ∙ c.if-is_sound.true, sym p.fits ∙ c.if-write.true, p.leaves, c.if-write.true, c.from.ensures)
 
 pub returns-else-write : goal.returns-else-write
 unfolding store_outcome

@@ -2,23 +2,23 @@
 use mathlib.Core.Path.{sym, ◌∙◌}
 use Prim.Native.Nat.{◌+◌}
 use native.Mathlib.Omega.{arith}
-use Rattle.rules.specs.Bytes.{entry_size, entry_bytes, record_bytes}
+use Rattle.rules.specs.Bytes.{entry_size, record_size, entry_bytes, record_bytes}
 use Rattle.rules.proofs.Entries.{entry_size_lem}
-use Rattle.octets.proofs.Writes.{wrote_none, also, then}
+use Rattle.octets.proofs.Fits.{room, no_room}
+use Rattle.octets.proofs.Writes.{wrote_none, also, then_number}
 use Rattle.image.proofs.Listed.{record_inside, record_outside}
 use Rattle.image.proofs.put_record.Goals as goal
 
-pub returns-then-out-lt-SIZE : goal.returns-then-out-lt-SIZE
-returns-then-out-lt-SIZE c = sym (record_outside _ _ _ (omega arith))
-
-pub returns-then-out-at : goal.returns-then-out-at
-returns-then-out-at c = sym (record_outside _ _ _ (omega arith))
-
-pub returns : goal.returns
+pub returns-then-has_room : goal.returns-then-has_room
 unfolding record_bytes
-returns c =
+returns-then-has_room c =
     let a = c.args in
+    let l = a.out.now in
+    let within = room record_size a.at l c.has_room.ensures c.if-has_room.true in
     let size = entry_size_lem a.r.entry in
-    let w = also (wrote_none a.out.now a.at (omega arith)) a.at (omega arith) (entry_bytes a.r.entry) (omega arith) c.put_entry.ensures in
-    (then w (a.at + entry_size) (omega (arith, size)) 8 a.r.earliest (omega arith) c.put8.ensures).is
-    ∙ sym (record_inside a.at a.r a.out.now (omega arith))
+    let w = also (wrote_none l a.at (omega (arith, within))) a.at (omega arith) (entry_bytes a.r.entry) (omega (arith, within)) c.put.ensures in
+    (then_number w (a.at + entry_size) (omega (arith, size)) 8 a.r.earliest (omega (arith, within)) c.write_at.ensures).is
+    ∙ sym (record_inside a.at a.r l within)
+
+pub returns-else-has_room : goal.returns-else-has_room
+returns-else-has_room c = let a = c.args in sym (record_outside a.at a.r a.out.now (no_room record_size a.at a.out.now c.has_room.ensures c.if-has_room.false))

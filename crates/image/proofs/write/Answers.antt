@@ -12,5 +12,4 @@ returns-then-out-ne-SIZE c = simp (ne_eqb _ _ c.if-out-ne-SIZE.true)
 pub returns : goal.returns
 returns c =
     let s = c.args.s in
-    written s (lengths s _ c.well_formed.0) c.args.out.now c.if-out-ne-SIZE.false c.put8.ensures c.put.ensures c.put_programs.ensures
-    c.put_entries.ensures
+    written s (lengths s _ c.well_formed.0) c.args.out.now c.if-out-ne-SIZE.false c.write_at.ensures c.put.ensures c.put_all.ensures c.put_all-2.ensures

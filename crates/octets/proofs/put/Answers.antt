@@ -1,26 +1,32 @@
 use mathlib.Core.Path.{◌≡◌, sym, ◌∙◌}
+use Prim.Native.Nat.{◌+◌, ◌-◌}
 use native.Mathlib.Omega.{arith}
-use Rattle.octets.proofs.Fits.{put_inside, put_outside}
+use Rattle.octets.proofs.Fits.{room, no_room, put_inside, put_outside}
 use Rattle.octets.proofs.Writes.{left_all, left_less, left_none}
 use Rattle.octets.proofs.put.Goals as goal
 
-pub returns-then-b-n : goal.returns-then-b-n
-returns-then-b-n c = sym (put_outside _ _ _ _ (omega arith))
-
-pub returns-then-b-n-2 : goal.returns-then-b-n-2
-returns-then-b-n-2 c = sym (put_outside _ _ _ _ (omega arith))
+pub returns-then-not-has_room : goal.returns-then-not-has_room
+returns-then-not-has_room c = sym (put_outside _ _ _ _ (no_room c.args.n c.args.at c.args.b.now c.has_room.ensures c.if-not-has_room.true))
 
 pub loop-i-init : goal.loop-i-init
-loop-i-init c = (omega arith, left_all _ _ _ _)
+loop-i-init c =
+    let a = c.args in
+    let all : a.at + a.n - a.at ≡ a.n = omega arith in
+    (omega arith, rw all (left_all a.b.now a.at a.n a.x))
 
 pub loop-i-preserved : goal.loop-i-preserved
-loop-i-preserved c = let l = c.loop-i in (omega arith, left_less l.i (omega arith) (omega arith) l.invariant.1)
-
-pub shape_of-b : goal.shape_of-b
-shape_of-b c = c.loop-i.invariant.1.size
+loop-i-preserved c =
+    let a = c.args in
+    let l = c.loop-i in
+    let within = room c.args.n c.args.at c.args.b.now c.has_room.ensures c.if-not-has_room.false in
+    let place : a.at + (l.i - a.at - 1) ≡ l.i - 1 = omega arith in
+    let left : l.i - a.at - 1 ≡ l.i - 1 - a.at = omega arith in
+    (omega arith, rw (place, left) at (left_less (l.i - a.at) (omega arith) (omega (arith, within)) l.invariant.1))
 
 pub returns : goal.returns
 returns c =
+    let a = c.args in
     let l = c.loop-i in
-    let z : l.i ≡ 0 = omega arith in
-    left_none (omega arith) (rw z at l.invariant.1) ∙ sym (put_inside _ _ _ _ (omega arith))
+    let within = room c.args.n c.args.at c.args.b.now c.has_room.ensures c.if-not-has_room.false in
+    let none : l.i - a.at ≡ 0 = omega arith in
+    left_none within (rw none at l.invariant.1) ∙ sym (put_inside _ _ _ _ within)

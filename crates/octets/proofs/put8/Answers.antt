@@ -1,14 +1,10 @@
 -- There is room, or there is none.
 use mathlib.Core.Path.{sym, ◌∙◌}
-use native.Mathlib.Omega.{arith}
-use Rattle.octets.proofs.Fits.{put_inside, put_outside}
+use Rattle.octets.proofs.Fits.{room, no_room, put_inside, put_outside}
 use Rattle.octets.proofs.put8.Goals as goal
 
-pub returns-then-b-lt8 : goal.returns-then-b-lt8
-returns-then-b-lt8 c = sym (put_outside _ _ _ _ (omega arith))
+pub returns-then-has_room : goal.returns-then-has_room
+returns-then-has_room c = c.write_at.ensures ∙ sym (put_inside _ _ _ _ (room 8 c.args.at c.args.b.now c.has_room.ensures c.if-has_room.true))
 
-pub returns-then-b-at : goal.returns-then-b-at
-returns-then-b-at c = sym (put_outside _ _ _ _ (omega arith))
-
-pub returns : goal.returns
-returns c = c.put_u64.ensures ∙ sym (put_inside _ _ _ _ (omega arith))
+pub returns-else-has_room : goal.returns-else-has_room
+returns-else-has_room c = sym (put_outside _ _ _ _ (no_room 8 c.args.at c.args.b.now c.has_room.ensures c.if-has_room.false))

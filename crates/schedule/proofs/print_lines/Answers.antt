@@ -1,6 +1,5 @@
 use mathlib.Core.Path.{◌≡◌, refl, sym, ap, ◌∙◌, subst}
 use Prim.Native.Nat.{ℕ, ◌+◌}
-use mathlib.Core.Bool.{false≢true}
 use mathlib.Core.List.{List, [], ◌++◌, append_assoc, append-nil}
 use native.Mathlib.Omega.{arith}
 use lib.ListN.{length, drop, length-drop}
@@ -39,7 +38,7 @@ module _ {first : Schedule} {piece : List ℕ} {s : Schedule} {from : ℕ} (p : 
       rw all (p.lines after)
 
 pub loop-ran-init : goal.loop-ran-init
-loop-ran-init g c = (c.requires.kept_rules, omega arith, refl, record { text = []; lines = λ after. refl; ended = refl })
+loop-ran-init g c = (c.requires.kept_rules, omega arith, record { text = []; lines = λ after. refl; ended = refl })
 
 pub slice_bounds-run-start : goal.slice_bounds-run-start
 slice_bounds-run-start g c = c.loop-ran.invariant.1
@@ -48,33 +47,29 @@ pub slice_bounds-write_all-end : goal.slice_bounds-write_all-end
 slice_bounds-write_all-end g c =
     let l = c.loop-ran in
     let w = went l.s l.invariant.0 c.run-ran.result c.run-ran.ensures in
-    omega (arith, w.fits, c.count-n.ensures)
+    omega (arith, w.fits, c.counted-n.ensures)
 
 pub slice_bounds-write_all-end-in-loop-ran : goal.slice_bounds-write_all-end-in-loop-ran
 slice_bounds-write_all-end-in-loop-ran g c =
     let l = c.loop-ran in
     let w = went l.s l.invariant.0 c.run-ran.result c.run-ran.ensures in
-    sym (length-take-le c.count-n.result c.run-ran.new.out (omega (arith, w.fits, c.count-n.ensures)))
+    sym (length-take-le c.counted-n.result c.run-ran.new.out (omega (arith, w.fits, c.counted-n.ensures)))
 
 pub returns-then-is_err : goal.returns-then-is_err
 returns-then-is_err g c =
     let l = c.loop-ran in
     let w = went l.s l.invariant.0 c.run-ran.result c.run-ran.ensures in
-    record { kept_rules = w.is_sound; within = l.invariant.1; none_left = λ e. absurd (false≢true e); goes_on = λ e. absurd (false≢true e) }
+    record { kept_rules = w.is_sound; taken = l.invariant.1 }
 
 pub returns-then-ran-eq0 : goal.returns-then-ran-eq0
 returns-then-ran-eq0 g c =
     let left_of = rest_of c.args.piece.now c.loop-ran.from in
     let l = c.loop-ran in
     let w = went l.s l.invariant.0 c.run-ran.result c.run-ran.ensures in
-    let none = rw left_of at (w.some (omega (arith, c.requires.room, l.invariant.2)) c.if-ran-eq0.true) in
+    let none = rw left_of at (w.some (omega (arith, c.requires.room)) c.if-ran-eq0.true) in
     let stays : l.from + c.run-ran.result.read ≡ l.from = omega (arith, c.if-ran-eq0.true) in
-    record {
-      kept_rules = w.is_sound;
-      within = l.invariant.1;
-      none_left = λ e. none;
-      goes_on = λ e. printed_all (rw stays at (printed_more l.invariant.3 c.run-ran.result _ c.run-ran.ensures left_of)) none;
-    }
+    let goes_on = printed_all (rw stays at (printed_more l.invariant.2 c.run-ran.result _ c.run-ran.ensures left_of)) none in
+    record { kept_rules = w.is_sound; taken = record { within = l.invariant.1; none_left = none; goes_on = goes_on } }
 
 pub overflow_add-from : goal.overflow_add-from
 overflow_add-from g c =
@@ -96,6 +91,5 @@ loop-ran-preserved g c =
     let w = went l.s l.invariant.0 c.run-ran.result c.run-ran.ensures in (
       w.is_sound,
       omega (arith, w.within, l.invariant.1),
-      omega (arith, l.invariant.2),
-      printed_more l.invariant.3 c.run-ran.result _ c.run-ran.ensures left_of,
+      printed_more l.invariant.2 c.run-ran.result _ c.run-ran.ensures left_of,
     )

@@ -17,7 +17,7 @@ pub record Printed (first : Schedule) (piece : List ℕ) (s : Schedule) (from : 
   pub ended : tell_all first (ended_of piece) ≡ text ++ tell_all s (ended_of (drop from piece))
 
 abbrev pub invariant-loop-ran : goal.invariant-loop-ran
-invariant-loop-ran g l = (sound l.s ≡ true) × (l.from ≤ length l.piece) × (length l.out ≡ length l.initial.out) × Printed l.initial.s l.piece l.s l.from
+invariant-loop-ran g l = (sound l.s ≡ true) × (l.from ≤ length l.piece) × Printed l.initial.s l.piece l.s l.from
 
 abbrev pub decreases-loop-ran : goal.decreases-loop-ran
 decreases-loop-ran g l = length l.piece - l.from

@@ -1,7 +1,7 @@
--- The code is the definition.
+use Rattle.std.proofs.Common.{rules}
 use Rattle.rules.specs.Records.{cut}
 use Rattle.sound.proofs.is_before.Goals as goal
 
 pub returns : goal.returns
 unfolding cut
-returns c = rw c.is_below.ensures
+returns c = search rules

@@ -1,7 +1,7 @@
--- The event is compared with the empty one, the other fields with 0.
-use Rattle.rules.specs.Sound.{unused}
+-- The entry is compared with the unused one.
+use mathlib.Core.Path.{ap, ◌∙◌}
+use Rattle.rules.proofs.Same.{entries_equal, equal_unused}
 use Rattle.sound.proofs.is_unused.Goals as goal
 
 pub returns : goal.returns
-unfolding unused
-returns c = rw (c.equals.ensures, c.none.ensures)
+returns c = let h = c.args.h in c.eq.ensures ∙ ap (entries_equal h) c.none.ensures ∙ equal_unused h

@@ -20,14 +20,14 @@ loop-t-init c =
     let o = opened c.holders-holding.result p.ready.0 p.ready.1 p.clock_le_to.0 p.clock_le_to.1 p.clock_le_to.2 c.holders-holding.ensures c.time_at-t.result c.time_at-t.ensures c.is_quiet.ensures c.open-s.ensures in
     (o.0, o.1, c.time_at-t.ensures, o.2)
 
-pub after_ends-requires : goal.after_ends-requires
-after_ends-requires c = omega (arith, c.loop-t-test.true, c.loop-t.invariant.1.last)
+pub start_at-requires : goal.start_at-requires
+start_at-requires c = (omega (arith, c.loop-t-test.true, c.loop-t.invariant.1.last), omega arith)
 
 pub take-ends-requires : goal.take-ends-requires
 take-ends-requires c =
     let s = c.loop-t.invariant in
     let g = s.1 in
-    rw c.after_ends.ensures (stops_ends g.planned g.ready.used.few g.last g.reached g.from s.2 c.loop-t-test.true)
+    rw c.start_at.ensures (stops_ends g.planned g.ready.used.few g.last g.reached g.from s.2 c.loop-t-test.true)
 
 pub after_starts-requires : goal.after_starts-requires
 after_starts-requires c = omega (arith, c.loop-t-test.true, c.loop-t.invariant.1.last)
@@ -36,13 +36,13 @@ pub take-starts-requires : goal.take-starts-requires
 take-starts-requires c =
     let s = c.loop-t.invariant in
     let g = s.1 in
-    let ends = rw c.after_ends.ensures at c.take-ends.ensures in
+    let ends = rw c.start_at.ensures at c.take-ends.ensures in
     rw c.after_starts.ensures (stops_starts g.planned g.ready.used.few g.last g.reached g.from s.2 c.loop-t-test.true ends)
 
 pub moment-s-requires : goal.moment-s-requires
 moment-s-requires c =
     let s = c.loop-t.invariant in
-    let ends = rw c.after_ends.ensures at c.take-ends.ensures in
+    let ends = rw c.start_at.ensures at c.take-ends.ensures in
     let starts = rw c.after_starts.ensures at c.take-starts.ensures in
     ahead s.1 c.loop-t.t s.2 s.3 c.loop-t-test.true ends starts
 
@@ -52,7 +52,7 @@ time_at-t-requires-in-loop-t c = c.take-starts.ensures.inside
 pub loop-t-smaller : goal.loop-t-smaller
 loop-t-smaller c =
     let s = c.loop-t.invariant in
-    let ends = rw c.after_ends.ensures at c.take-ends.ensures in
+    let ends = rw c.start_at.ensures at c.take-ends.ensures in
     let starts = rw c.after_starts.ensures at c.take-starts.ensures in
     let going = step s.1 c.loop-t.t s.2 s.3 c.loop-t-test.true ends starts c.moment-s.ensures in
     omega (arith, next_later going c.time_at-t-in-loop-t.result c.time_at-t-in-loop-t.ensures, c.loop-t-test.true)
@@ -60,7 +60,7 @@ loop-t-smaller c =
 pub loop-t-preserved : goal.loop-t-preserved
 loop-t-preserved c =
     let s = c.loop-t.invariant in
-    let ends = rw c.after_ends.ensures at c.take-ends.ensures in
+    let ends = rw c.start_at.ensures at c.take-ends.ensures in
     let starts = rw c.after_starts.ensures at c.take-starts.ensures in (
       c.loop-t.t,
       step s.1 c.loop-t.t s.2 s.3 c.loop-t-test.true ends starts c.moment-s.ensures,

@@ -1,4 +1,4 @@
-use mathlib.Core.Path.{◌≡◌, sym, ◌∙◌}
+use mathlib.Core.Path.{◌≡◌, refl, sym, ◌∙◌}
 use mathlib.Core.Logic.{⊎_elim}
 use mathlib.Core.Bool.{not}
 use mathlib.Core.List.{List}
@@ -8,6 +8,7 @@ use borrow.Author.Tests.{leb-true}
 use lib.Dec.{leb, ltb}
 use Rattle.rules.proofs.Tests.{both, each_true}
 use Rattle.calls.specs.Agenda.{Inserted}
+use Rattle.calls.specs.Sets.{event_at}
 use Rattle.calls.proofs.Changes.{Plans, WithStart, passed, planned, no_changes, event_more, agenda_of}
 use Rattle.calls.proofs.agenda.gather.Goals as goal
 
@@ -18,8 +19,8 @@ put_as e p = rw e at p
 pub start_at-requires : goal.start_at-requires
 start_at-requires c =
     let a = c.args in
-    let begins = c.begins_at-begins.result in
-    let t = each_true (not c.is_cancelled_at.result) _ (sym c.is_coming.ensures ∙ c.if-is_coming.true) in
+    let begins = (event_at a.slots.now c.loop-i.i).begins in
+    let t = each_true (not (event_at a.slots.now c.loop-i.i).cancelled) _ (sym c.is_coming.ensures ∙ c.if-is_coming.true) in
     (omega (arith, leb-true begins a.to (each_true (ltb a.clock begins) (leb begins a.to) t.1).1), omega arith)
 
 -- `begun` is after the start of the event at i
@@ -27,12 +28,12 @@ pub loop-i-preserved : goal.loop-i-preserved
 loop-i-preserved c =
     let l = c.loop-i in
     let a = c.args in
-    let begun : (c.if-is_coming.m ≤ 2 * l.i + 1) × Plans (WithStart a.clock a.to l.i a.slots.now c.is_coming.result c.begins_at-begins.result) c.if-is_coming.m c.if-is_coming.agenda =
+    let begun : (c.if-is_coming.m ≤ 2 * l.i + 1) × Plans (WithStart a.clock a.to l.i a.slots.now c.is_coming.result (event_at a.slots.now l.i).begins) c.if-is_coming.m c.if-is_coming.agenda =
     ⊎_elim
     (λ w. (omega (arith, l.invariant.1, w.m-is), rw (w.agenda-is, w.m-is) (planned l.invariant.2 w.if-is_coming.true (put_as w.start_at.ensures w.plan.ensures))))
     (λ w. (omega (arith, l.invariant.1, w.m-is), rw (w.agenda-is, w.m-is) (passed l.invariant.2 (λ t. both _ t w.if-is_coming.false))))
     c.if-is_coming.branch-raw in
-    let more = event_more a.clock a.to l.i a.slots.now c.is_cancelled_at.ensures c.begins_at-begins.ensures c.is_coming.ensures c.ends_at-ends.ensures in
+    let more = event_more a.clock a.to l.i a.slots.now refl refl c.is_coming.ensures c.ends_at-ends.ensures in
     ⊎_elim
     (λ w. (omega arith, omega (arith, begun.0, w.m-is), rw (w.agenda-is, w.m-is) (more _ _ (planned begun.1 w.if-ends-to.true (put_as w.end_at.ensures w.plan-then-ends-to.ensures)))))
     (λ w. (omega arith, omega (arith, begun.0, w.m-is), rw (w.agenda-is, w.m-is) (more _ _ (passed begun.1 (λ t. omega (arith, w.if-ends-to.false))))))
@@ -53,7 +54,7 @@ pub plan-requires-then-ends-to : goal.plan-requires-then-ends-to
 plan-requires-then-ends-to c =
     let l = c.loop-i in
     let a = c.args in
-    let begun : (c.if-is_coming.m ≤ 2 * l.i + 1) × Plans (WithStart a.clock a.to l.i a.slots.now c.is_coming.result c.begins_at-begins.result) c.if-is_coming.m c.if-is_coming.agenda =
+    let begun : (c.if-is_coming.m ≤ 2 * l.i + 1) × Plans (WithStart a.clock a.to l.i a.slots.now c.is_coming.result (event_at a.slots.now l.i).begins) c.if-is_coming.m c.if-is_coming.agenda =
     ⊎_elim
     (λ w. (omega (arith, l.invariant.1, w.m-is), rw (w.agenda-is, w.m-is) (planned l.invariant.2 w.if-is_coming.true (put_as w.start_at.ensures w.plan.ensures))))
     (λ w. (omega (arith, l.invariant.1, w.m-is), rw (w.agenda-is, w.m-is) (passed l.invariant.2 (λ t. both _ t w.if-is_coming.false))))
@@ -64,7 +65,7 @@ pub overflow_add-m-then-ends-to : goal.overflow_add-m-then-ends-to
 overflow_add-m-then-ends-to c =
     let l = c.loop-i in
     let a = c.args in
-    let begun : (c.if-is_coming.m ≤ 2 * l.i + 1) × Plans (WithStart a.clock a.to l.i a.slots.now c.is_coming.result c.begins_at-begins.result) c.if-is_coming.m c.if-is_coming.agenda =
+    let begun : (c.if-is_coming.m ≤ 2 * l.i + 1) × Plans (WithStart a.clock a.to l.i a.slots.now c.is_coming.result (event_at a.slots.now l.i).begins) c.if-is_coming.m c.if-is_coming.agenda =
     ⊎_elim
     (λ w. (omega (arith, l.invariant.1, w.m-is), rw (w.agenda-is, w.m-is) (planned l.invariant.2 w.if-is_coming.true (put_as w.start_at.ensures w.plan.ensures))))
     (λ w. (omega (arith, l.invariant.1, w.m-is), rw (w.agenda-is, w.m-is) (passed l.invariant.2 (λ t. both _ t w.if-is_coming.false))))

@@ -1,42 +1,18 @@
-use Prim.Native.Nat.{◌<◌}
 use native.Mathlib.Omega.{arith}
-use Rattle.rules.specs.Records.{most_events}
 use Rattle.calls.proofs.Turns.{none_counted, count_next, all_counted}
 use Rattle.calls.proofs.clock.count.Goals as goal
 
-pub loop-rest-preserved : goal.loop-rest-preserved
-loop-rest-preserved c =
-    let slot : c.lowest-next.result.place < most_events = c.requires.1 _ (c.loop-rest.invariant.within _ c.lowest-next.ensures.here) in
-    count_next c.loop-rest.invariant c.lowest-next.ensures (slot) _ c.with_second.ensures
+pub loop-place-preserved : goal.loop-place-preserved
+loop-place-preserved c = count_next c.loop-place.invariant c.in-Some.ensures.steps (c.requires.1 _ (c.loop-place.invariant.within _ c.in-Some.ensures.steps.here))
 
-pub loop-rest-init : goal.loop-rest-init
-loop-rest-init c = none_counted c.args.set _ c.requires.0
+pub loop-place-init : goal.loop-place-init
+loop-place-init c = rw (c.into_iter-place-iterator.ensures.into_iter_gives, c.of-place-items.ensures) (none_counted c.args.set _ c.requires.0)
 
-pub lowest-next-requires : goal.lowest-next-requires
-lowest-next-requires c = c.loop-rest-test.true
+pub offset_bounds-slots-place : goal.offset_bounds-slots-place
+offset_bounds-slots-place c = omega (arith, c.requires.1 _ (c.loop-place.invariant.within _ c.in-Some.ensures.steps.here))
 
-pub offset_bounds-slots-i : goal.offset_bounds-slots-i
-offset_bounds-slots-i c =
-    let slot : c.lowest-next.result.place < most_events = c.requires.1 _ (c.loop-rest.invariant.within _ c.lowest-next.ensures.here) in
-    omega (arith, slot)
-
-pub bounds-slots-i : goal.bounds-slots-i
-bounds-slots-i c =
-    let slot : c.lowest-next.result.place < most_events = c.requires.1 _ (c.loop-rest.invariant.within _ c.lowest-next.ensures.here) in
-    omega (arith, slot)
-
-pub offset_bounds-slots-i-in-loop-rest : goal.offset_bounds-slots-i-in-loop-rest
-offset_bounds-slots-i-in-loop-rest c =
-    let slot : c.lowest-next.result.place < most_events = c.requires.1 _ (c.loop-rest.invariant.within _ c.lowest-next.ensures.here) in
-    omega (arith, slot)
-
-pub bounds-slots-i-in-loop-rest : goal.bounds-slots-i-in-loop-rest
-bounds-slots-i-in-loop-rest c =
-    let slot : c.lowest-next.result.place < most_events = c.requires.1 _ (c.loop-rest.invariant.within _ c.lowest-next.ensures.here) in
-    omega (arith, slot)
-
-pub loop-rest-smaller : goal.loop-rest-smaller
-loop-rest-smaller c = c.lowest-next.ensures.less
+pub bounds-slots-place : goal.bounds-slots-place
+bounds-slots-place c = omega (arith, c.requires.1 _ (c.loop-place.invariant.within _ c.in-Some.ensures.steps.here))
 
 pub returns : goal.returns
-returns c = all_counted c.loop-rest.invariant c.loop-rest-test.false
+returns c = all_counted c.loop-place.invariant c.in-None.ensures.steps.0

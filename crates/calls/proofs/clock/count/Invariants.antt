@@ -2,8 +2,5 @@
 use Rattle.calls.proofs.Turns.{Counting}
 use Rattle.calls.proofs.clock.count.Given as goal
 
-abbrev pub invariant-loop-rest : goal.invariant-loop-rest
-invariant-loop-rest l = Counting l.set l.initial.slots l.slots l.rest
-
-abbrev pub decreases-loop-rest : goal.decreases-loop-rest
-decreases-loop-rest l = l.rest
+abbrev pub invariant-loop-place : goal.invariant-loop-place
+invariant-loop-place l = Counting l.set l.initial.slots l.slots l.place-iterator.rest

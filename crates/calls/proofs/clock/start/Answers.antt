@@ -1,20 +1,14 @@
 use Rattle.calls.proofs.Turns.{none_started, can_come, start_next, all_started}
 use Rattle.calls.proofs.clock.start.Goals as goal
 
-pub loop-rest-init : goal.loop-rest-init
-loop-rest-init c = none_started c.requires
-
-pub lowest-next-requires : goal.lowest-next-requires
-lowest-next-requires c = c.loop-rest-test.true
+pub loop-place-init : goal.loop-place-init
+loop-place-init c = rw (c.into_iter-place-iterator.ensures.into_iter_gives, c.of-place-items.ensures) (none_started c.requires)
 
 pub contend-now-requires : goal.contend-now-requires
-contend-now-requires c = can_come c.loop-rest.invariant c.lowest-next.ensures
+contend-now-requires c = can_come c.loop-place.invariant c.in-Some.ensures.steps
 
-pub loop-rest-smaller : goal.loop-rest-smaller
-loop-rest-smaller c = c.lowest-next.ensures.less
-
-pub loop-rest-preserved : goal.loop-rest-preserved
-loop-rest-preserved c = start_next c.loop-rest.invariant c.lowest-next.ensures c.contend-now.ensures
+pub loop-place-preserved : goal.loop-place-preserved
+loop-place-preserved c = start_next c.loop-place.invariant c.in-Some.ensures.steps c.contend-now.ensures
 
 pub returns : goal.returns
-returns c = all_started c.loop-rest.invariant c.loop-rest-test.false
+returns c = all_started c.loop-place.invariant c.in-None.ensures.steps.0

@@ -2,8 +2,5 @@
 use Rattle.calls.proofs.Turns.{Starting}
 use Rattle.calls.proofs.clock.start.Given as goal
 
-abbrev pub invariant-loop-rest : goal.invariant-loop-rest
-invariant-loop-rest l = Starting l.d l.initial.slots l.holding l.starting l.slots l.now l.rest
-
-abbrev pub decreases-loop-rest : goal.decreases-loop-rest
-decreases-loop-rest l = l.rest
+abbrev pub invariant-loop-place : goal.invariant-loop-place
+invariant-loop-place l = Starting l.d l.initial.slots l.holding l.starting l.slots l.now l.place-iterator.rest

@@ -2,16 +2,23 @@
 use mathlib.Core.Path.{◌≡◌, refl, sym, ap, ◌∙◌}
 use mathlib.Core.Bool.{Bool, true, false, cond}
 use mathlib.Core.List.{[], map}
-use Prim.Native.Nat.{◌<◌, ◌≤◌}
+use Prim.Native.Nat.{ℕ}
 use native.Mathlib.Omega.{arith}
-use borrow.Author.Tests.{not-true, not-false}
-use Rattle.rules.specs.Records.{differ, id_number, most_events}
+use Rattle.rules.specs.declared.Reply.{Reply}
+use Rattle.rules.specs.declared.Reply.TheVariants.{Code}
+use Rattle.rules.specs.declared.Refusal.TheVariants.{NotHeld}
+use Rattle.std.specs.Prelude.{Ok}
+use Rattle.rules.specs.declared.Schedule.{Schedule}
+use Rattle.rules.specs.Sound.{sound}
+use Rattle.rules.specs.Records.{view, differ, id_number}
 use Rattle.rules.specs.Refusals.{find, held_checks}
-use Rattle.rules.specs.Calls.{choose, code, with_entries, decide, choice_code, does, checks}
-use Rattle.calls.specs.Slots.{slot_state}
-use Rattle.calls.proofs.Slots.{within, slot_at}
+use Rattle.rules.specs.Calls.{call, choose, code, with_entries, decide, choice_code, does, checks}
+use Rattle.calls.specs.Answered.{told}
+use Rattle.calls.specs.Found.{Bears}
+use Rattle.calls.specs.Sets.{event_at, chosen}
+use Rattle.calls.proofs.Slots.{slot_at, fits}
 use Rattle.calls.proofs.Placing.{decides_one}
-use Rattle.calls.proofs.Acting.{refuses, found, inside, changes}
+use Rattle.calls.proofs.Acting.{with_event, kept, refuses, held, free, inside, changes}
 use Rattle.calls.proofs.events.choose.Goals as goal
 
 -- the answer's code is that of the definition
@@ -20,49 +27,44 @@ coded true true = refl
 coded true false = refl
 coded false out = refl
 
-pub returns-then-not-p : goal.returns-then-not-p
+-- the event in its place has the choice
+decides : (s : Schedule) → sound s ≡ true → {i at : ℕ} → Bears (view s).entries i at → (out : Bool) {k : ℕ}
+    → k ≡ cond (differ (event_at s.entries at).choice.out out) (cond out 4 5) 0 → {r : Reply} → r ≡ Code k → told (Ok r) (with_event s at (chosen (event_at s.entries at) out)) ≡ call s (choose i out)
+unfolding does checks held_checks
+decides s e {i} {at} f out {k} is {r} p =
+    let old = held s e f in
+    let same = slot_at s.entries s.count (fits s e) at (inside s e f).0 in
+    let before = ap (λ h. h.choice.out) same in
+    let value : choice_code out (find i (view s).entries) ≡ code k =
+    ap (choice_code out) old ∙ ap (λ o. cond (differ o out) (cond out (code 4) (code 5)) (code 0)) before ∙ sym (ap code is ∙ coded (differ (event_at s.entries at).choice.out out) out) in
+    ap (λ r. told (Ok r) (with_event s at (chosen (event_at s.entries at) out))) p ∙ changes s e (decides_one out) f (choose i out) k (rw old)
+    (ap (λ v. record { state = with_entries (view s) (map (decide i out) (view s).entries); value = v; bytes = []; records = [] }) value)
+
+pub returns-in_default : goal.returns-in_default
 unfolding checks held_checks
-returns-then-not-p c =
-    refuses c.requires _ 11 refl refl (rw (found c.requires c.place_of-p.ensures (not-true _ c.if-not-p.true)))
+returns-in_default c =
+    let a = c.args in
+    refuses a.s.now.schedule a.s.now.good (choose (id_number a.id) a.out) NotHeld refl refl (rw (free a.s.now.schedule a.s.now.good (rw c.in_default.is at c.place_of.ensures)))
+
+pub invariant_of-s : goal.invariant_of-s
+invariant_of-s c =
+    let a = c.args in
+    let s = a.s.now in
+    record { good = kept s.schedule s.good (choose (id_number a.id) a.out) (decides s.schedule s.good (rw c.in-Ok.is at c.place_of.ensures) a.out c.choice_code-code.ensures refl) }
 
 pub returns : goal.returns
-unfolding does checks held_checks
 returns c =
-    let r = c.requires in
-    let f = c.place_of-p.ensures in
-    let b = not-false _ c.if-not-p.false in
-    let a = c.args in
-    let s = slot_state a.d a.slots.now in
-    let i = id_number a.id in
-    let old = found r f b in
-    let same = slot_at a.slots.now a.d.count (within r) c.place_of-p.result.at (inside r f b).0 in
-    let before = ap (λ h. h.choice.out) same ∙ sym (ap (λ c. c.out) c.choice_at-before.ensures) in
-    let value : choice_code a.out (find i s.entries) ≡ code c.choice_code-code.result =
-    ap (choice_code a.out) old ∙ ap (λ o. cond (differ o a.out) (cond a.out (code 4) (code 5)) (code 0)) before ∙ sym (ap code c.choice_code-code.ensures ∙ coded (differ c.choice_at-before.result.out a.out) a.out) in
-    changes r (decides_one a.out) f b refl _ c.with_choice.ensures (choose i a.out) c.choice_code-code.result (rw old)
-    (ap (λ v. record { state = with_entries s (map (decide i a.out) s.entries); value = v; bytes = []; records = [] }) value)
+    let s = c.args.s.now in
+    decides s.schedule s.good (rw c.in-Ok.is at c.place_of.ensures) c.args.out c.choice_code-code.ensures c.from.ensures
 
-pub choice_at-before-requires : goal.choice_at-before-requires
-choice_at-before-requires c =
-    let there : let d = c.args.d in (c.place_of-p.result.at < d.count) × (d.count ≤ most_events) = inside c.requires c.place_of-p.ensures (not-false _ c.if-not-p.false) in
-    omega (arith, there)
+pub offset_bounds-s-at : goal.offset_bounds-s-at
+offset_bounds-s-at c = omega (arith, inside c.args.s.now.schedule c.args.s.now.good (rw c.in-Ok.is at c.place_of.ensures))
 
-pub offset_bounds-slots-at : goal.offset_bounds-slots-at
-offset_bounds-slots-at c =
-    let there : let d = c.args.d in (c.place_of-p.result.at < d.count) × (d.count ≤ most_events) = inside c.requires c.place_of-p.ensures (not-false _ c.if-not-p.false) in
-    omega (arith, there)
+pub bounds-s-at : goal.bounds-s-at
+bounds-s-at c = omega (arith, inside c.args.s.now.schedule c.args.s.now.good (rw c.in-Ok.is at c.place_of.ensures))
 
-pub bounds-slots-at : goal.bounds-slots-at
-bounds-slots-at c =
-    let there : let d = c.args.d in (c.place_of-p.result.at < d.count) × (d.count ≤ most_events) = inside c.requires c.place_of-p.ensures (not-false _ c.if-not-p.false) in
-    omega (arith, there)
+pub offset_bounds-s-at-2 : goal.offset_bounds-s-at-2
+offset_bounds-s-at-2 c = omega (arith, inside c.args.s.now.schedule c.args.s.now.good (rw c.in-Ok.is at c.place_of.ensures))
 
-pub offset_bounds-slots-at-2 : goal.offset_bounds-slots-at-2
-offset_bounds-slots-at-2 c =
-    let there : let d = c.args.d in (c.place_of-p.result.at < d.count) × (d.count ≤ most_events) = inside c.requires c.place_of-p.ensures (not-false _ c.if-not-p.false) in
-    omega (arith, there)
-
-pub bounds-slots-at-2 : goal.bounds-slots-at-2
-bounds-slots-at-2 c =
-    let there : let d = c.args.d in (c.place_of-p.result.at < d.count) × (d.count ≤ most_events) = inside c.requires c.place_of-p.ensures (not-false _ c.if-not-p.false) in
-    omega (arith, there)
+pub bounds-s-at-2 : goal.bounds-s-at-2
+bounds-s-at-2 c = omega (arith, inside c.args.s.now.schedule c.args.s.now.good (rw c.in-Ok.is at c.place_of.ensures))

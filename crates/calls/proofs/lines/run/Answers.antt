@@ -1,25 +1,16 @@
-use mathlib.Core.Path.{◌≡◌, refl, ap, ◌∙◌}
+use mathlib.Core.Path.{◌≡◌, refl}
 use mathlib.Core.List.{List}
 use Prim.Native.Nat.{ℕ, ◌+◌, ◌<◌, ◌≤◌}
 use native.Mathlib.Omega.{arith}
 use lib.ListN.{length, drop}
-use Rattle.rules.specs.Calls.{count}
-use Rattle.calls.specs.Slots.{schedule_of}
-use Rattle.frame.specs.Ends.{ended_of, up_to}
-use Rattle.calls.specs.Lines.{runs, ran_into}
-use Rattle.calls.proofs.Returned.{same_schedule, ready}
+use Rattle.frame.specs.Ends.{up_to}
 use Rattle.calls.proofs.Running.{running_none, running_size, running_end, running_stop, running_past, running_more}
 use Rattle.frame.proofs.Ends.{end_within}
 use Rattle.calls.proofs.lines.run.Goals.{else-loop-from-test, then-loop-from-test+then-end-lines, then-loop-from-test+else-end-lines+then-out-at-lt-MOST}
 use Rattle.calls.proofs.lines.run.Goals as goal
 
-pub take_apart-requires : goal.take_apart-requires
-take_apart-requires c = record { good = c.requires; size = refl }
-
 pub loop-from-init : goal.loop-from-init
-loop-from-init c =
-    let r = ready c.head_of-d.ensures c.take_apart.ensures c.requires in
-    (running_none _ r.good c.args.lines.now c.args.out.now, r.used, refl)
+loop-from-init c = (running_none _ c.args.lines.now c.args.out.now, refl)
 
 pub next_line-found-requires : goal.next_line-found-requires
 next_line-found-requires c = c.loop-from.invariant.0.within
@@ -27,13 +18,10 @@ next_line-found-requires c = c.loop-from.invariant.0.within
 pub overflow_sub-out : goal.overflow_sub-out
 overflow_sub-out c = let l = c.loop-from in omega (arith, running_size l.invariant.0, l.invariant.0.fits)
 
-pub tell-told-requires : goal.tell-told-requires
-tell-told-requires c =
+pub tell-at-requires : goal.tell-at-requires
+tell-at-requires c =
     let v = c.loop-from.invariant in
-    record {
-      lent = record { ready = record { used = v.1; good = v.0.is_sound }; long = v.2 };
-      room = omega (arith, c.if-out-at-lt-MOST.false, running_size v.0, v.0.fits);
-    }
+    (v.1, omega (arith, c.if-out-at-lt-MOST.false, running_size v.0, v.0.fits))
 
 -- the line feed stands within the text
 within : (lines : List ℕ) (from : ℕ) {end : ℕ} → from ≤ length lines → end ≡ from + up_to (drop from lines) → (end ≡ length lines → ⊥) → end < length lines
@@ -55,11 +43,8 @@ loop-from-preserved c =
     let v = c.loop-from.invariant.0 in
     let line = c.next_line-found in
     let there = within c.args.lines.now c.loop-from.from v.within line.ensures.end c.if-end-lines.false in
-    let t = c.tell-told.ensures in
-    (running_more v line.result.end line.ensures.end there (omega (arith, c.if-out-at-lt-MOST.false, running_size v)) line.ensures.line t, t.used, t.long)
-
-pub put_together-requires : goal.put_together-requires
-put_together-requires c = c.loop-from.invariant.1
+    let t = c.tell-at.ensures in
+    (running_more v line.result.end line.ensures.end there (omega (arith, c.if-out-at-lt-MOST.false, running_size v)) line.ensures.line t, t.long)
 
 pub shape_of-out : goal.shape_of-out
 shape_of-out c = running_size c.loop-from.invariant.0
@@ -69,8 +54,6 @@ returns c =
     let a = c.args in
     let l = c.loop-from in
     let v = l.invariant.0 in
-    let first = same_schedule c.head_of-d.ensures c.take_apart.ensures in
-    let all : record { number = 0; value = count l.at; state = schedule_of l.d l.slots; read = l.from; bytes = l.out } ≡ ran_into (runs (length a.out.now) _ (ended_of a.lines.now)) a.out.now =
     elim c.loop-from-test.branch [
       | else-loop-from-test w ↦ running_past v w.loop-from-test.false
       | then-loop-from-test+then-end-lines w ↦ running_end v _ w.next_line-found.ensures.end (omega (arith, w.if-end-lines.true))
@@ -78,6 +61,4 @@ returns c =
           running_stop v _ w.next_line-found.ensures.end
           (within a.lines.now l.from v.within w.next_line-found.ensures.end w.if-end-lines.false)
           (omega (arith, w.if-out-at-lt-MOST.true, running_size v))
-    ] in
-    (λ i. record { number = 0; value = count l.at; state = c.put_together.ensures i; read = l.from; bytes = l.out })
-    ∙ all ∙ ap (λ z. ran_into (runs (length a.out.now) z (ended_of a.lines.now)) a.out.now) first
+    ]

@@ -9,6 +9,3 @@ use Rattle.calls.proofs.programs.default_of.Given as goal
 
 abbrev pub invariant-loop-i : goal.invariant-loop-i
 invariant-loop-i l = (l.i ≤ most_programs) × (length l.programs ≡ most_programs) × (l.control < most_controls) × (ranked l.best ≡ best_default l.control l.i (drop l.i l.programs))
-
-abbrev pub decreases-loop-i : goal.decreases-loop-i
-decreases-loop-i l = l.i

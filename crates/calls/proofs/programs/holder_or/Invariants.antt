@@ -1,17 +1,8 @@
--- The loop has passed over the first i.
+-- The loop has passed over the first events, and none of them governs.
 use mathlib.Core.Path.{◌≡◌}
-use Prim.Native.Nat.{◌-◌, ◌≤◌, ◌<◌}
-use mathlib.Core.List.{map}
-use lib.ListN.{take, drop}
-use Rattle.rules.specs.Records.{most_controls}
-use Rattle.rules.specs.Calls.{value_of, holder_in}
-use Rattle.calls.specs.Slots.{entry_of, InUse}
+use lib.ListN.{drop}
+use Rattle.rules.specs.Calls.{reply_value, holder_in}
 use Rattle.calls.proofs.programs.holder_or.Given as goal
 
-abbrev pub invariant-loop-i : goal.invariant-loop-i
-invariant-loop-i l =
-    let hs = map entry_of (take l.n l.slots) in
-    (l.i ≤ l.n) × InUse l.n l.slots × (l.control < most_controls) × (holder_in l.control hs (value_of l.other) ≡ holder_in l.control (drop l.i hs) (value_of l.other))
-
-abbrev pub decreases-loop-i : goal.decreases-loop-i
-decreases-loop-i l = l.n - l.i
+abbrev pub invariant-loop-h : goal.invariant-loop-h
+invariant-loop-h l = holder_in l.control l.events (reply_value l.other) ≡ holder_in l.control (drop l.h-index l.events) (reply_value l.other)

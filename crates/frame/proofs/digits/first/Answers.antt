@@ -4,8 +4,8 @@ use native.Mathlib.Omega.{arith}
 use Rattle.frame.proofs.Pairs.{no_pair, first_pair}
 use Rattle.frame.proofs.digits.first.Goals as goal
 
-pub returns-then-line-lt2 : goal.returns-then-line-lt2
-returns-then-line-lt2 c = sym (no_pair c.args.line.now (omega arith))
+pub returns-in_default : goal.returns-in_default
+returns-in_default c = sym (no_pair c.args.line.now (omega arith))
 
 pub returns : goal.returns
 returns c =

@@ -11,9 +11,9 @@ returns c =
     rw (
       c.get_event.ensures,
       event_inside a.at a.b.now (omega arith),
-      c.u64_at.ensures,
-      c.u32_at.ensures,
-      c.u8_at.ensures,
+      c.read_at.ensures,
+      c.read_at-2.ensures,
+      c.read_at-3.ensures,
       c.choice_of.ensures,
-      c.u8_at-2.ensures,
+      c.read_at-4.ensures,
     )

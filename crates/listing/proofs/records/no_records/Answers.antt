@@ -6,4 +6,4 @@ use Rattle.rules.specs.Calls.{record_of}
 use Rattle.listing.proofs.records.no_records.Goals as goal
 
 pub returns : goal.returns
-returns c = ap (λ r. replicate most_events r) (c.of-record.ensures ∙ ap record_of c.none.ensures)
+returns c = ap (λ r. replicate most_events r) (c.from-record.ensures ∙ ap record_of c.none.ensures)

@@ -19,7 +19,7 @@ loop-i-preserved c =
       l.invariant.1,
       l.invariant.2,
       simp length-set l.invariant.3,
-      recorded_more s c.requires l.i _ (omega arith) l.invariant.4 c.of.ensures,
+      recorded_more s c.requires l.i _ (omega arith) l.invariant.4 c.from.ensures,
     )
 
 pub returns : goal.returns

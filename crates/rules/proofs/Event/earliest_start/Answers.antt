@@ -8,4 +8,4 @@ pub returns : goal.returns
 unfolding earliest_start
 returns c =
     let e = c.args.self in
-    ap (λ t. dated t e) (c.earlier.ensures ∙ ap (min e.start) c.moved.ensures)
+    ap (λ t. dated t e) (c.min.ensures ∙ ap (min e.start) c.moved.ensures)

@@ -14,6 +14,6 @@ unfolding effective_start effective_end drawn_start
 returns c =
     let e = c.args.self in
     let drawn = c.moved-drawn_start.ensures in
-    let starts = c.later-effective_start.ensures ∙ ap₂ (λ a b. max a (b + 1)) drawn c.earlier.ensures in
+    let starts = c.max-effective_start.ensures ∙ ap₂ (λ a b. max a (b + 1)) drawn c.min.ensures in
     let ends = ◌∙◌ {c = effective_end e} c.moved-effective_end.ensures (ap (λ t. plus (t + e.duration) e.duration_draw) drawn) in
     λ i. times (starts i) (ends i) (c.earliest_start-earliest.ensures i).time

@@ -1,8 +1,0 @@
--- The word and then the number.
-use native.Mathlib.Omega.{arith}
-use Rattle.text.proofs.Printing.{put_then}
-use Rattle.text.proofs.writing.refused.Goals as goal
-
-pub returns : goal.returns
-returns c =
-    put_then (omega arith) c.word-behind.ensures c.number.ensures
