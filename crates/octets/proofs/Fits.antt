@@ -31,6 +31,9 @@ module _ (n at : ℕ) (l : List ℕ) where
   unfolding get_at
   get_inside g h = rw (le-leb n 8 g, le-leb (at + n) (length l) h)
 
+  pub got_inside : {x : ℕ} → x ≡ get_at n at l → n ≤ 8 → at + n ≤ length l → x ≡ read n at l
+  got_inside e g h = e ∙ get_inside g h
+
   pub get_outside : length l < at + n → get_at n at l ≡ 0
   unfolding get_at
   get_outside h = rw (lt-leb (at + n) (length l) h, and-false)

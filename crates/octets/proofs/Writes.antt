@@ -84,11 +84,8 @@ module _ {old : List ℕ} {at : ℕ} {vs new : List ℕ} (w : Wrote old at vs ne
     is = q ∙ rw (w.is, e) (over_then at vs ws old (omega (arith, w.room)));
   }
 
-  pub then_number : (n x : ℕ) → next + n ≤ length old → m ≡ over_at next (big n x) new → Wrote old at (vs ++ big n x) m
-  then_number n x h q = also (big n x) (omega (arith, big_length n x)) q
-
   pub then : (n x : ℕ) → next + n ≤ length old → m ≡ put_at n next x new → Wrote old at (vs ++ big n x) m
-  then n x h q = then_number n x h (q ∙ put_inside n next new x (omega (arith, same_size w)))
+  then n x h q = also (big n x) (omega (arith, big_length n x)) (q ∙ put_inside n next new x (omega (arith, same_size w)))
 
   pub then_copy : (n : ℕ) (from : List ℕ) → n ≤ length from → next + n ≤ length old → m ≡ copied next n from new → Wrote old at (vs ++ take n from) m
   then_copy n from g h q = also (take n from) (omega (arith, length-take-le n from g)) (q ∙ copy_inside next n from new g (omega (arith, same_size w)))

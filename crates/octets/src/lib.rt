@@ -38,7 +38,7 @@ pub fn has_room(length: usize, at: usize, n: usize) -> bool
 }
 
 // The number in the n bytes from `at`; 0 if they are more than 8 or not all there.
-// Kept: a width as a number, here and at `put`, beside the methods of `Number`: who calls these needs no proof that the bytes are there.
+// Kept: a width as a number, here and at `put`, beside the methods of `Number`: docs/CALLS.md promises every width.
 pub fn get(b: &[u8], at: usize, n: usize) -> u64
     ensures { result ≡ get_at n at b.now }
 {
@@ -69,13 +69,11 @@ pub fn put(b: &mut [u8], at: usize, n: usize, x: u64)
 }
 
 // The same of 8 bytes, without a loop.
-// Kept: docs/CALLS.md names it. `put` of 8 bytes says the same and goes by its loop.
+// Kept: docs/CALLS.md names it. `put` of 8 bytes says the same and goes by its loop, and `write_at` of a u64 is what it calls.
 pub fn put8(b: &mut [u8], at: usize, x: u64)
     ensures { b.new ≡ put_at 8 at x b.old }
 {
-    if has_room(b.len(), at, 8) {
-        x.write_at(b, at);
-    }
+    x.write_at(b, at);
 }
 
 // The id whose bytes stand at `at`; id 0 if they are not all there.

@@ -1,10 +1,12 @@
-// Numbers of a fixed width, where their bytes are all there.
-ghost use Rattle.std.specs.Prelude.{◌≡◌, ℕ, ◌+◌, ◌≤◌, length};
-ghost use Rattle.rules.specs.Lists.{over_at};
-ghost use Rattle.rules.specs.Bytes.{big, read};
+// Numbers of a fixed width.
+ghost use Rattle.std.specs.Prelude.{◌≡◌, ℕ};
+ghost use Rattle.octets.specs.Octets.{get_at, put_at};
 
-// An unsigned number with its own count of bytes, the most significant first.
-// Kept: bytes named one by one and no `try_from` of a slice, whose error cannot occur and would need a value.
+use crate::has_room;
+
+// An unsigned number with its own count of bytes, the most significant first: read as 0 if they are not all there, and not written if there is no room for
+// them all.
+// Kept: bytes named one by one and no `try_from` of a slice, whose error cannot occur behind the test for room and would need a value.
 // Kept: an impl for each type. `from_be_bytes` and `to_be_bytes` are methods of no trait, and `rt ci` takes no impl that a macro of this repository writes.
 pub trait Number {
     ghost width: { ℕ };
@@ -12,12 +14,10 @@ pub trait Number {
     ghost value: { Self → ℕ };
 
     fn read_at(b: &[u8], at: usize) -> Self
-        requires { at + width ≤ length b.now }
-        ensures { value result ≡ read width at b.now };
+        ensures { value result ≡ get_at width at b.now };
 
     fn write_at(self, b: &mut [u8], at: usize)
-        requires { at + width ≤ length b.old }
-        ensures { b.new ≡ over_at at (big width (value self)) b.old };
+        ensures { b.new ≡ put_at width at (value self) b.old };
 }
 
 impl Number for u8 {
@@ -26,10 +26,13 @@ impl Number for u8 {
     ghost value = { λ x. x };
 
     fn read_at(b: &[u8], at: usize) -> u8 {
-        b[at]
+        if has_room(b.len(), at, 1) { b[at] } else { 0 }
     }
 
     fn write_at(self, b: &mut [u8], at: usize) {
+        if !has_room(b.len(), at, 1) {
+            return;
+        }
         b[at] = self;
     }
 }
@@ -40,10 +43,17 @@ impl Number for u16 {
     ghost value = { λ x. x };
 
     fn read_at(b: &[u8], at: usize) -> u16 {
-        u16::from_be_bytes([b[at], b[at + 1]])
+        if has_room(b.len(), at, 2) {
+            u16::from_be_bytes([b[at], b[at + 1]])
+        } else {
+            0
+        }
     }
 
     fn write_at(self, b: &mut [u8], at: usize) {
+        if !has_room(b.len(), at, 2) {
+            return;
+        }
         b[at..at + 2].copy_from_slice(&self.to_be_bytes());
     }
 }
@@ -54,10 +64,17 @@ impl Number for u32 {
     ghost value = { λ x. x };
 
     fn read_at(b: &[u8], at: usize) -> u32 {
-        u32::from_be_bytes([b[at], b[at + 1], b[at + 2], b[at + 3]])
+        if has_room(b.len(), at, 4) {
+            u32::from_be_bytes([b[at], b[at + 1], b[at + 2], b[at + 3]])
+        } else {
+            0
+        }
     }
 
     fn write_at(self, b: &mut [u8], at: usize) {
+        if !has_room(b.len(), at, 4) {
+            return;
+        }
         b[at..at + 4].copy_from_slice(&self.to_be_bytes());
     }
 }
@@ -68,19 +85,26 @@ impl Number for u64 {
     ghost value = { λ x. x };
 
     fn read_at(b: &[u8], at: usize) -> u64 {
-        u64::from_be_bytes([
-            b[at],
-            b[at + 1],
-            b[at + 2],
-            b[at + 3],
-            b[at + 4],
-            b[at + 5],
-            b[at + 6],
-            b[at + 7],
-        ])
+        if has_room(b.len(), at, 8) {
+            u64::from_be_bytes([
+                b[at],
+                b[at + 1],
+                b[at + 2],
+                b[at + 3],
+                b[at + 4],
+                b[at + 5],
+                b[at + 6],
+                b[at + 7],
+            ])
+        } else {
+            0
+        }
     }
 
     fn write_at(self, b: &mut [u8], at: usize) {
+        if !has_room(b.len(), at, 8) {
+            return;
+        }
         b[at..at + 8].copy_from_slice(&self.to_be_bytes());
     }
 }

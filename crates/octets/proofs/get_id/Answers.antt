@@ -1,7 +1,8 @@
 -- Half by half, if all its bytes are there.
 use mathlib.Core.Path.{sym, ap, ap₂, ◌∙◌}
+use native.Mathlib.Omega.{arith}
 use Rattle.rules.specs.Records.{id_size, halves, id_from}
-use Rattle.octets.proofs.Fits.{room, no_room, id_inside, id_outside}
+use Rattle.octets.proofs.Fits.{room, no_room, got_inside, id_inside, id_outside}
 use Rattle.octets.proofs.Joins.{id_read}
 use Rattle.octets.proofs.get_id.Goals as goal
 
@@ -12,5 +13,7 @@ pub returns : goal.returns
 returns c =
     let a = c.args in
     let l = a.b.now in
-    c.of-2.ensures ∙ ap id_from (ap₂ halves c.read_at-high.ensures c.read_at-low.ensures) ∙ id_read a.at l
-    ∙ sym (id_inside a.at l (room id_size c.args.at c.args.b.now c.has_room.ensures c.if-not-has_room.false))
+    let within = room id_size a.at l c.has_room.ensures c.if-not-has_room.false in
+    let high = got_inside _ _ _ c.read_at-high.ensures (omega arith) (omega (arith, within)) in
+    let low = got_inside _ _ _ c.read_at-low.ensures (omega arith) (omega (arith, within)) in
+    c.of-2.ensures ∙ ap id_from (ap₂ halves high low) ∙ id_read a.at l ∙ sym (id_inside a.at l within)

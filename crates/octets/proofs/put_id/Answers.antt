@@ -9,7 +9,7 @@ use Rattle.rules.specs.Bytes.{big}
 use Rattle.rules.proofs.Numbers.{big_length}
 use Rattle.octets.proofs.Fits.{room, no_room, put_inside, put_outside}
 use Rattle.octets.proofs.Joins.{id_bytes}
-use Rattle.octets.proofs.Writes.{wrote_none, then_number}
+use Rattle.octets.proofs.Writes.{wrote_none, then}
 use Rattle.octets.proofs.put_id.Goals as goal
 
 pub returns-then-not-has_room : goal.returns-then-not-has_room
@@ -21,7 +21,7 @@ returns c =
     let l = a.out.now in
     let n = id_number a.id in
     let within = room id_size c.args.at c.args.out.now c.has_room.ensures c.if-not-has_room.false in
-    let w₁ = then_number (wrote_none l a.at (omega (arith, within))) a.at (omega arith) half_size c.upper.result (omega (arith, within)) c.write_at.ensures in
-    let w₂ = then_number w₁ (a.at + half_size) (omega (arith, big_length half_size c.upper.result)) half_size c.lower.result (omega (arith, within)) c.write_at-2.ensures in
+    let w₁ = then (wrote_none l a.at (omega (arith, within))) a.at (omega arith) half_size c.upper.result (omega (arith, within)) c.write_at.ensures in
+    let w₂ = then w₁ (a.at + half_size) (omega (arith, big_length half_size c.upper.result)) half_size c.lower.result (omega (arith, within)) c.write_at-2.ensures in
     let bytes = ap₂ (λ x y. big half_size x ++ big half_size y) c.upper.ensures c.lower.ensures ∙ id_bytes n in
     w₂.is ∙ ap (λ v. over_at a.at v l) bytes ∙ sym (put_inside id_size a.at l n within)

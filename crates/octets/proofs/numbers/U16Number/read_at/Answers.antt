@@ -1,10 +1,18 @@
--- The sum of the bytes, each of its own weight.
-use mathlib.Core.Path.{◌≡◌}
+-- The sum of the bytes, each of its own weight, if they are all there.
+use mathlib.Core.Path.{◌≡◌, sym}
 use Prim.Native.Nat.{◌+◌}
 use native.Mathlib.Omega.{arith}
 use Rattle.rules.specs.Bytes.{read}
+use Rattle.octets.proofs.Fits.{room, no_room, get_inside, get_outside}
 use Rattle.octets.proofs.numbers.U16Number.read_at.Goals as goal
 
-pub returns : goal.returns
+pub returns-then-has_room : goal.returns-then-has_room
 unfolding read
-returns c = let at = c.args.at in let first : at + 0 ≡ at = omega arith in rw first (omega (arith, c.from_be_bytes.ensures))
+returns-then-has_room c =
+    let a = c.args in
+    let l = a.b.now in
+    let first : a.at + 0 ≡ a.at = omega arith in
+    rw (get_inside 2 a.at l (omega arith) (room 2 a.at l c.has_room.ensures c.if-has_room.true), first) (omega (arith, c.from_be_bytes.ensures))
+
+pub returns-else-has_room : goal.returns-else-has_room
+returns-else-has_room c = let a = c.args in sym (get_outside 2 a.at a.b.now (no_room 2 a.at a.b.now c.has_room.ensures c.if-has_room.false))
