@@ -6,9 +6,10 @@ use mathlib.Core.List.{List, []}
 use borrow.Author.Tests.{eqb-true, eqb-false}
 use lib.Dec.{eqb}
 use lib.ListN.{length}
-use Rattle.std.specs.Prelude.{Option, Some, None}
+use Rattle.std.specs.Prelude.{Option, Some, None, Result, Ok, Err}
 use Rattle.rules.specs.declared.Record.{Record}
 use Rattle.rules.specs.declared.Schedule.{Schedule}
+use Rattle.rules.specs.Records.{fresh, pad}
 use Rattle.rules.specs.Sound.{sound}
 use Rattle.rules.specs.Image.{image_size, image, loaded, formed, imaged}
 use Rattle.rules.specs.Calls.{Bare, Call, bare, Outcome, number_of, value_of, counted, lent_bytes, call}
@@ -46,31 +47,41 @@ one_if None = 0
 pub is_some : {A : Type 0} (s : A) → Some s ≡ None → ⊥
 is_some s e = eqb-false 1 0 refl (ap one_if e)
 
-module _ (l : List ℕ) {b : Option Schedule} (e : b ≡ read_of l) where
-  pub formed_as : {s : Schedule} → b ≡ Some s → Formed l s
-  unfolding formed read_of
-  formed_as {s} f = by (formed l) refl
-    where
-      by : (t : Bool) → formed l ≡ t → Formed l s
-      by true well =
-          record {
-            well = well;
-            size = eqb-true (length l) image_size (each_true (eqb (length l) image_size) _ well).0;
-            schedule = (let there : Some s ≡ Some (loaded l) = sym f ∙ e ∙ rw well in ap (some_or s) there);
-          }
-      by false bad = (let there : Some s ≡ None = sym f ∙ e ∙ rw bad in absurd (is_some s there))
+-- whether a read found an image, and the schedule that it gave with either answer
+abbrev pub is_found : Result Schedule Schedule → Bool
+is_found (Ok s) = true
+is_found (Err s) = false
 
-  pub unformed : b ≡ None → imaged l ≡ false
-  unfolding imaged read_of
-  unformed f = by (formed l) refl
+abbrev pub schedule_in : Result Schedule Schedule → Schedule
+schedule_in (Ok s) = s
+schedule_in (Err s) = s
+
+module _ (l : List ℕ) {b : Result Schedule Schedule} (e : b ≡ read_of l) where
+  pub is_read : (is_found b ≡ formed l) × (schedule_in b ≡ cond (formed l) (loaded l) (pad fresh))
+  unfolding read_of
+  is_read = rw e (by (formed l))
     where
-      by : (t : Bool) → formed l ≡ t → imaged l ≡ false
-      by true well = (let there : None ≡ Some (loaded l) = sym f ∙ e ∙ rw well in absurd (is_some (loaded l) (sym there)))
-      by false bad = rw bad
+      by : (t : Bool) → let r = cond t (Ok (loaded l)) (Err (pad fresh)) in (is_found r ≡ t) × (schedule_in r ≡ cond t (loaded l) (pad fresh))
+      by true = (refl, refl)
+      by false = (refl, refl)
+
+  pub formed_as : {s : Schedule} → b ≡ Ok s → Formed l s
+  unfolding formed
+  formed_as f =
+      let well = sym is_read.0 ∙ ap is_found f in
+      record {
+        well = well;
+        size = eqb-true (length l) image_size (each_true (eqb (length l) image_size) _ well).0;
+        schedule = sym (ap schedule_in f) ∙ rw well at is_read.1;
+      }
+
+  pub unformed : {s : Schedule} → b ≡ Err s → (imaged l ≡ false) × (s ≡ pad fresh)
+  unfolding imaged
+  unformed f = let bad = sym is_read.0 ∙ ap is_found f in (rw bad, sym (ap schedule_in f) ∙ rw bad at is_read.1)
 
   -- the same, as the read found it
-  pub unread : b ≡ None → (op : Operation) (lent : List ℕ) {r : ℕ} → r ≡ negative 2 → face_of r l lent ≡ face l op lent
-  unread f = unimaged l (unformed f)
+  pub unread : {s : Schedule} → b ≡ Err s → (op : Operation) (lent : List ℕ) {r : ℕ} → r ≡ negative 2 → face_of r l lent ≡ face l op lent
+  unread f = unimaged l (unformed f).0
 
 -- What a call gave.
 
@@ -153,7 +164,7 @@ stored {l} {b} f op lent a {after} {records} q told kept whole p =
         rw same
 
 -- An operation that is lent nothing, from what the read found: its call asks no more of the store, and the store leaves what the face shows.
-module _ (l : List ℕ) {o : Option Schedule} {b : Schedule} (e : o ≡ read_of l) (f : o ≡ Some b) (a : Answered) where
+module _ (l : List ℕ) {o : Result Schedule Schedule} {b : Schedule} (e : o ≡ read_of l) (f : o ≡ Ok b) (a : Answered) where
   pub may_store : (c : Call) → outcome_of a [] [] ≡ call b c → MayStore a.answer l
   may_store = small (formed_as l e f) a
 

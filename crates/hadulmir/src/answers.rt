@@ -63,6 +63,6 @@ pub(crate) fn finish(a: Answered, image: &mut [u8]) -> u32
             image::write(a.schedule, image);
             shown(reply)
         }
-        Err(refusal) => negative(refusal),
+        Err(refused) => negative(refused),
     }
 }

@@ -27,8 +27,15 @@ pub struct Opened {
 pub fn load(b: &[u8]) -> Opened
     ensures { result ≡ load_outcome b.now }
 {
-    let Some(schedule) = image::read(b) else {
-        return no_image();
+    let schedule = match image::read(b) {
+        Ok(schedule) => schedule,
+        // The fresh schedule: the bytes are no image.
+        Err(schedule) => {
+            return Opened {
+                answer: Err(Refusal::BrokenRule),
+                schedule,
+            };
+        }
     };
     if sound::is_sound(schedule) {
         return Opened {
@@ -81,7 +88,7 @@ pub extern "C" fn hadulmir_add_program(
 ) -> u32
     ensures { face_of result image.new [] ≡ face image.old (adds_program number primacy defaults) [] }
 {
-    let Some(s) = image::read(image) else {
+    let Ok(s) = image::read(image) else {
         return answers::negative(Refusal::BrokenRule);
     };
     answers::finish(calls::add_program(s, number, primacy, defaults), image)
@@ -106,7 +113,7 @@ pub extern "C" fn hadulmir_deliver(
     ensures { face_of result image.new [] ≡ face image.old
         (delivers (event_of (halves id_high id_low) program controls created start duration randomize_start randomize_duration start_draw duration_draw)) [] }
 {
-    let Some(s) = image::read(image) else {
+    let Ok(s) = image::read(image) else {
         return answers::negative(Refusal::BrokenRule);
     };
     let e = Event {
@@ -129,7 +136,7 @@ pub extern "C" fn hadulmir_deliver(
 pub extern "C" fn hadulmir_cancel(image: &mut [u8], id_high: u64, id_low: u64) -> u32
     ensures { face_of result image.new [] ≡ face image.old (cancels (halves id_high id_low)) [] }
 {
-    let Some(s) = image::read(image) else {
+    let Ok(s) = image::read(image) else {
         return answers::negative(Refusal::BrokenRule);
     };
     answers::finish(calls::cancel(s, Id::of(id_high, id_low)), image)
@@ -140,7 +147,7 @@ pub extern "C" fn hadulmir_cancel(image: &mut [u8], id_high: u64, id_low: u64) -
 fn choose(image: &mut [u8], id_high: u64, id_low: u64, out: bool) -> u32
     ensures { face_of result image.new [] ≡ face image.old (chooses (halves id_high id_low) out) [] }
 {
-    let Some(s) = image::read(image) else {
+    let Ok(s) = image::read(image) else {
         return answers::negative(Refusal::BrokenRule);
     };
     answers::finish(calls::choose(s, Id::of(id_high, id_low), out), image)
@@ -168,7 +175,7 @@ pub extern "C" fn hadulmir_opt_in(image: &mut [u8], id_high: u64, id_low: u64) -
 pub extern "C" fn hadulmir_set_clock(image: &mut [u8], reading: u64, rows: &mut [u8]) -> u32
     ensures { face_of result image.new rows.new ≡ face image.old (sets_clock reading) rows.old }
 {
-    let Some(s) = image::read(image) else {
+    let Ok(s) = image::read(image) else {
         return answers::negative(Refusal::BrokenRule);
     };
     answers::finish(calls::set_clock(s, reading, rows), image)
@@ -179,7 +186,7 @@ pub extern "C" fn hadulmir_set_clock(image: &mut [u8], reading: u64, rows: &mut 
 pub extern "C" fn hadulmir_ask(image: &[u8], control: u8, id: &mut [u8]) -> u32
     ensures { face_of result image.now id.new ≡ face image.now (asks control) id.old }
 {
-    let Some(s) = image::read(image) else {
+    let Ok(s) = image::read(image) else {
         return answers::negative(Refusal::BrokenRule);
     };
     let answer = calls::ask(s, control).answer;
@@ -198,7 +205,7 @@ pub extern "C" fn hadulmir_ask(image: &[u8], control: u8, id: &mut [u8]) -> u32
 pub extern "C" fn hadulmir_list(image: &[u8], records: &mut [u8]) -> u32
     ensures { face_of result image.now records.new ≡ face image.now lists records.old }
 {
-    let Some(s) = image::read(image) else {
+    let Ok(s) = image::read(image) else {
         return answers::negative(Refusal::BrokenRule);
     };
     if !sound::is_sound(s) {

@@ -1,8 +1,9 @@
 -- What is read from bytes, and what is written into a buffer.
-use Rattle.std.specs.Prelude.{ℕ, ◌+◌, ◌*◌, ◌≤◌, ◌<◌, Bool, true, false, cond, List, Option, Some, None, leb, eqb, length}
+use Rattle.std.specs.Prelude.{ℕ, ◌+◌, ◌*◌, ◌≤◌, ◌<◌, Bool, true, false, cond, List, Result, Ok, Err, leb, eqb, length}
 use Rattle.rules.specs.declared.Record.{Record}
 use Rattle.rules.specs.declared.Schedule.{Schedule}
 use Rattle.rules.specs.Lists.{over_at}
+use Rattle.rules.specs.Records.{fresh, pad}
 use Rattle.rules.specs.Bytes.{entry_size, record_size, record_bytes}
 use Rattle.rules.specs.Image.{image_size, image, loaded, formed}
 
@@ -11,9 +12,9 @@ pub record MarksInside (k n at : ℕ) (l : List ℕ) : Type 0 where
   pub step : k ≤ entry_size
   pub last : at + k * n < length l + k
 
--- Frames and image, the schedule of an image that keeps its length, its marks and the bits of its choices, whatever else it says
-unfoldable pub read_of : List ℕ → Option Schedule
-read_of l = cond (formed l) (Some (loaded l)) None
+-- Frames and image, the schedule of an image that keeps its length, its marks and the bits of its choices, whatever else it says; of other bytes the fresh schedule
+unfoldable pub read_of : List ℕ → Result Schedule Schedule
+read_of l = cond (formed l) (Ok (loaded l)) (Err (pad fresh))
 
 -- Frames and image, the image in a buffer of its length; any other buffer as it was
 unfoldable pub written_to : Schedule → List ℕ → Bool × List ℕ

@@ -34,14 +34,14 @@ const BEGINS: usize = Event::SIZE;
 
 const HELD: usize = Event::SIZE + 8;
 
-// Frames and image. The schedule in bytes that keep an image's length, its marks and the bits of its choices.
-pub fn read(b: &[u8]) -> Option<Schedule>
+// Frames and image. The schedule in bytes that keep an image's length, its marks and the bits of its choices. Bytes that are no image give the fresh schedule.
+pub fn read(b: &[u8]) -> Result<Schedule, Schedule>
     ensures { result ≡ read_of b.now }
 {
     if !reading::is_formed(b) {
-        return None;
+        return Err(Schedule::fresh());
     }
-    Some(reading::schedule(b))
+    Ok(reading::schedule(b))
 }
 
 // Frames and image. Writes the image into a buffer of its length; leaves any other alone and returns false.

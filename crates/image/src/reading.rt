@@ -59,20 +59,29 @@ fn is_marked(b: &[u8], most: u8, step: usize, count: usize, at: usize) -> bool
 }
 
 // Whether bytes have an image's length, its marks and the bits of its choices.
+// It returns after each test, so that each has a proof of its own.
 pub(crate) fn is_formed(b: &[u8]) -> bool
     ensures { result ≡ formed b.now }
 {
     if b.len() != Schedule::SIZE {
         return false;
     }
-    is_marked(
+    if !is_marked(
         b,
         LAST_MARK,
         Program::SIZE,
         Schedule::PROGRAMS,
         Schedule::PROGRAMS_AT,
-    ) && is_marked(b, LAST_MARK, Entry::SIZE, Schedule::EVENTS, FIRST_MARK)
-        && is_marked(b, LAST_CHOICE, Entry::SIZE, Schedule::EVENTS, FIRST_CHOICE)
+    ) {
+        return false;
+    }
+    if !is_marked(b, LAST_MARK, Entry::SIZE, Schedule::EVENTS, FIRST_MARK) {
+        return false;
+    }
+    if !is_marked(b, LAST_CHOICE, Entry::SIZE, Schedule::EVENTS, FIRST_CHOICE) {
+        return false;
+    }
+    true
 }
 
 // The schedule in an image.

@@ -10,9 +10,9 @@ returns-in_default c = unread _ c.read.ensures c.in_default.is _ [] c.negative.e
 
 pub finish-requires : goal.finish-requires
 finish-requires c =
-    may_store _ c.read.ensures c.in-Some.is c.choose.result _ c.choose.ensures
+    may_store _ c.read.ensures c.in-Ok.is c.choose.result _ c.choose.ensures
 
 pub returns : goal.returns
 returns c =
-    stored_alone _ c.read.ensures c.in-Some.is c.choose.result _ (rw (c.of.ensures, number_id) at c.choose.ensures) refl
+    stored_alone _ c.read.ensures c.in-Ok.is c.choose.result _ (rw (c.of.ensures, number_id) at c.choose.ensures) refl
     c.finish.ensures

@@ -9,9 +9,9 @@ returns-in_default c = unread _ c.read.ensures c.in_default.is _ [] c.negative.e
 
 pub finish-requires : goal.finish-requires
 finish-requires c =
-    may_store _ c.read.ensures c.in-Some.is c.add_program.result _ c.add_program.ensures
+    may_store _ c.read.ensures c.in-Ok.is c.add_program.result _ c.add_program.ensures
 
 pub returns : goal.returns
 returns c =
-    stored_alone _ c.read.ensures c.in-Some.is c.add_program.result _ c.add_program.ensures refl
+    stored_alone _ c.read.ensures c.in-Ok.is c.add_program.result _ c.add_program.ensures refl
     c.finish.ensures

@@ -9,9 +9,9 @@ returns-in_default c = unread _ c.read.ensures c.in_default.is _ [] c.negative.e
 
 pub finish-requires : goal.finish-requires
 finish-requires c =
-    may_store _ c.read.ensures c.in-Some.is c.deliver.result _ c.deliver.ensures
+    may_store _ c.read.ensures c.in-Ok.is c.deliver.result _ c.deliver.ensures
 
 pub returns : goal.returns
 returns c =
-    stored_alone _ c.read.ensures c.in-Some.is c.deliver.result _ (rw c.of.ensures at c.deliver.ensures) refl
+    stored_alone _ c.read.ensures c.in-Ok.is c.deliver.result _ (rw c.of.ensures at c.deliver.ensures) refl
     c.finish.ensures

@@ -25,19 +25,19 @@ returns-in_default c =
 
 pub returns-then-not-is_sound : goal.returns-then-not-is_sound
 returns-then-not-is_sound c =
-    let known : Formed c.args.image.now c.in-Some.s = formed_as _ c.read.ensures c.in-Some.is in
+    let known : Formed c.args.image.now c.in-Ok.s = formed_as _ c.read.ensures c.in-Ok.is in
     unimaged _ (is_imaged known c.is_sound.ensures ∙ c.if-not-is_sound.true) _ _ c.negative-then-not-is_sound.ensures
 
 pub overflow_mul-n : goal.overflow_mul-n
 overflow_mul-n c =
-    let kept : sound c.in-Some.s ≡ true = sym c.is_sound.ensures ∙ c.if-not-is_sound.false in
+    let kept : sound c.in-Ok.s ≡ true = sym c.is_sound.ensures ∙ c.if-not-is_sound.false in
     omega (arith, (rules _ kept).count)
 
 pub returns-then-records-n : goal.returns-then-records-n
 returns-then-records-n c =
-    let known : Formed c.args.image.now c.in-Some.s = formed_as _ c.read.ensures c.in-Some.is in
+    let known : Formed c.args.image.now c.in-Ok.s = formed_as _ c.read.ensures c.in-Ok.is in
     let are_bytes : Bytes c.args.image.now = λ i. omega (arith, c.type_inv.image i) in
-    let kept : sound c.in-Some.s ≡ true = sym c.is_sound.ensures ∙ c.if-not-is_sound.false in
+    let kept : sound c.in-Ok.s ≡ true = sym c.is_sound.ensures ∙ c.if-not-is_sound.false in
     listed_short known are_bytes _ kept c.if-records-n.true c.negative-then-records-n.ensures
 
 pub loop-i-init : goal.loop-i-init
@@ -46,14 +46,14 @@ loop-i-init c = (omega arith, refl, refl)
 
 pub bounds-s-i : goal.bounds-s-i
 bounds-s-i c =
-    let kept : sound c.in-Some.s ≡ true = sym c.is_sound.ensures ∙ c.if-not-is_sound.false in
+    let kept : sound c.in-Ok.s ≡ true = sym c.is_sound.ensures ∙ c.if-not-is_sound.false in
     omega (arith, (rules _ kept).count)
 
 pub loop-i-preserved : goal.loop-i-preserved
 loop-i-preserved c =
-    let kept : sound c.in-Some.s ≡ true = sym c.is_sound.ensures ∙ c.if-not-is_sound.false in
+    let kept : sound c.in-Ok.s ≡ true = sym c.is_sound.ensures ∙ c.if-not-is_sound.false in
     let l = c.loop-i in
-    let hs = c.in-Some.s.entries in
+    let hs = c.in-Ok.s.entries in
     let full = rules _ kept in
     let inside = record_inside (record_size * l.i) c.from.result l.records (omega (arith, c.if-records-n.false)) in
     let at : record_size * l.i ≡ 0 + record_size * l.i = omega arith in
@@ -62,16 +62,16 @@ loop-i-preserved c =
 
 pub overflow_cast-result : goal.overflow_cast-result
 overflow_cast-result c =
-    let kept : sound c.in-Some.s ≡ true = sym c.is_sound.ensures ∙ c.if-not-is_sound.false in
+    let kept : sound c.in-Ok.s ≡ true = sym c.is_sound.ensures ∙ c.if-not-is_sound.false in
     omega (arith, (rules _ kept).count)
 
 pub returns : goal.returns
 returns c =
-    let known : Formed c.args.image.now c.in-Some.s = formed_as _ c.read.ensures c.in-Some.is in
+    let known : Formed c.args.image.now c.in-Ok.s = formed_as _ c.read.ensures c.in-Ok.is in
     let are_bytes : Bytes c.args.image.now = λ i. omega (arith, c.type_inv.image i) in
-    let kept : sound c.in-Some.s ≡ true = sym c.is_sound.ensures ∙ c.if-not-is_sound.false in
+    let kept : sound c.in-Ok.s ≡ true = sym c.is_sound.ensures ∙ c.if-not-is_sound.false in
     let l = c.loop-i in
-    let s = c.in-Some.s in
+    let s = c.in-Ok.s in
     let lent = c.args.records.now in
     let done : l.i ≡ s.count = omega arith in
     let written = l.invariant.2 ∙ ap (λ k. over (flat recorded (take k s.entries)) lent) done ∙ ap (λ v. over v lent) (sym (flat_map record_bytes record_of (view s).entries)) in

@@ -11,10 +11,10 @@ returns-in_default c =
 pub finish-requires : goal.finish-requires
 finish-requires c =
     let a = c.args in
-    small (formed_as a.image.now c.read.ensures c.in-Some.is) c.set_clock.result _ c.set_clock.ensures
+    small (formed_as a.image.now c.read.ensures c.in-Ok.is) c.set_clock.result _ c.set_clock.ensures
 
 pub returns : goal.returns
 returns c =
     let a = c.args in
-    let f = formed_as a.image.now c.read.ensures c.in-Some.is in
+    let f = formed_as a.image.now c.read.ensures c.in-Ok.is in
     stored f _ a.rows.now c.set_clock.result c.set_clock.ensures refl refl refl c.finish.ensures

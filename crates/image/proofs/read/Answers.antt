@@ -1,4 +1,4 @@
--- What is formed has an image's length.
+-- What is formed has an image's length; what is not gives the fresh schedule.
 use mathlib.Core.Path.{◌≡◌, sym, ◌∙◌}
 use mathlib.Core.Bool.{true, false, and-eq-true_iff}
 use borrow.Author.Tests.{eqb-true}
@@ -10,7 +10,7 @@ use Rattle.image.proofs.read.Goals as goal
 
 pub returns-then-not-is_formed : goal.returns-then-not-is_formed
 unfolding read_of
-returns-then-not-is_formed c = let bad : formed c.args.b.now ≡ false = sym c.is_formed.ensures ∙ c.if-not-is_formed.true in rw bad
+returns-then-not-is_formed c = let bad : formed c.args.b.now ≡ false = sym c.is_formed.ensures ∙ c.if-not-is_formed.true in rw (bad, c.fresh.ensures)
 
 pub schedule-requires : goal.schedule-requires
 unfolding formed

@@ -15,4 +15,4 @@ returns-in-Ok c =
 
 pub returns-in-Err : goal.returns-in-Err
 unfolding finished returned_for
-returns-in-Err c = rw (c.in-Err.is, some_number c.in-Err.refusal, c.negative.ensures)
+returns-in-Err c = rw (c.in-Err.is, some_number c.in-Err.refused, c.negative.ensures)
