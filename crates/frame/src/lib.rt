@@ -43,12 +43,12 @@ pub const LONGEST_LINE: usize = 2 * LONGEST;
 const FIELDS: [usize; 8] = [
     0,
     EVENT_FRAME,
-    ID_FRAME,
+    ID_FRAME, // a cancellation
     CLOCK_FRAME,
     PROGRAM_FRAME,
     ASK_FRAME,
-    ID_FRAME,
-    ID_FRAME,
+    ID_FRAME, // an opt-out
+    ID_FRAME, // an opt-in
 ];
 
 const IDS: [usize; 8] = [0, 1, 1, 0, 0, 0, 1, 1];

@@ -8,12 +8,17 @@ use native.Mathlib.Omega.{arith}
 use lib.Dec.{ltb}
 use lib.ListN.{length, get_or, set, length-append}
 use lib.Seq.{sets-eq, drop-drop}
+use Rattle.std.specs.Prelude.{Result, Ok, Err}
 use Rattle.rules.specs.declared.Frame.{Frame}
 use Rattle.rules.specs.declared.Frame.TheVariants.{Event, Cancel, Clock, Program, Ask, OptOut, OptIn}
-use Rattle.rules.specs.Calls.{Outcome, nothing}
+use Rattle.rules.specs.declared.Id.{Id}
+use Rattle.rules.specs.declared.Refusal.{Refusal}
+use Rattle.rules.specs.declared.Reply.{Reply}
+use Rattle.rules.specs.declared.Reply.TheVariants.{Code, Count, Holder, Default, Nobody}
+use Rattle.rules.specs.Calls.{Outcome, nothing, value_of}
 use Rattle.rules.specs.Records.{id_size}
 use Rattle.rules.specs.Bytes.{read, row_size}
-use Rattle.rules.specs.Printed.{decimal, most_digits, digits, most_id_digits, id_digits, three_text, rows_text, row_text, frame_text}
+use Rattle.rules.specs.Printed.{decimal, most_digits, digits, most_id_digits, id_digits, three_text, rows_text, row_text, code_text, ask_text, frame_text}
 use Rattle.text.specs.declared.writing.Text.{Text}
 use Rattle.rules.proofs.Over.{over_then, over_none}
 use Rattle.text.specs.Texts.{Adds, Stands, most_row}
@@ -69,6 +74,25 @@ nothing_told t (Program n p d) o v = refl
 nothing_told t (Ask c) o v = rw v
 nothing_told t (OptOut i) o v = rw v
 nothing_told t (OptIn i) o v = rw v
+
+-- Answers that give no text.
+
+pub no_code : (t i : ℕ) (a : Result Reply Refusal) → ((k : ℕ) → a ≡ Ok (Code k) → ⊥) → code_text t i (value_of a) ≡ []
+no_code t i (Err e) h = refl
+no_code t i (Ok (Code k)) h = absurd (h k refl)
+no_code t i (Ok (Count n)) h = refl
+no_code t i (Ok (Holder j)) h = refl
+no_code t i (Ok (Default p)) h = refl
+no_code t i (Ok Nobody) h = refl
+
+pub no_question : (c : ℕ) (a : Result Reply Refusal) → ((j : Id) → a ≡ Ok (Holder j) → ⊥) → ((p : ℕ) → a ≡ Ok (Default p) → ⊥) → (a ≡ Ok Nobody → ⊥)
+    → ask_text c (value_of a) ≡ []
+no_question c (Err e) h d n = refl
+no_question c (Ok (Code k)) h d n = refl
+no_question c (Ok (Count k)) h d n = refl
+no_question c (Ok (Holder j)) h d n = absurd (h j refl)
+no_question c (Ok (Default p)) h d n = absurd (d p refl)
+no_question c (Ok Nobody) h d n = absurd (n refl)
 
 -- Rows one behind the other.
 
