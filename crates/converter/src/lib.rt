@@ -107,7 +107,7 @@ impl Model for Output {
 
     ghost view = { λ o. take o.end o.buffer };
 
-    ghost invariant = { λ o. o.end < block_size };
+    ghost invariant = { λ o. (o.end < block_size) × (length o.buffer ≡ block_size + most_turned) };
 }
 
 impl Output {

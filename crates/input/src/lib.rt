@@ -28,8 +28,8 @@ pub fn keep(buffer: &mut [u8], from: usize, to: usize) -> usize
     n
 }
 
-// A proved loop has to end, and nothing says that the input does: its turns are counted down from a number that no run uses up. How many are left.
-// Kept: docs/CALLS.md names it as a promise of this crate; `run` counts its turns by a `for`.
+// A loop by hand over an input has to end, and nothing says that the input does: its turns are counted down from a number that no run uses up. How many are left.
+// Kept: docs/CALLS.md names it as a promise of this crate. `run` does not go through it: it counts its turns by a `for`.
 pub fn left(turns: u64, more: bool) -> u64
     ensures fewer { 0 < turns → result < turns }
     ensures is { result ≡ cond more (turns - 1) 0 }
@@ -102,8 +102,9 @@ impl Input {
 
 // What a program does with the lines of its input.
 pub trait Lines {
-    // Takes all lines that end in a piece, and writes what is to be written for them. How many bytes these lines were. In an error so many were taken, and what was to
-    // be written for the last of them could not be.
+    // Takes all lines that end in a piece, and writes what is to be written for them. How many bytes these lines were. In an error a write failed, and so many bytes were
+    // taken. In crates/schedule the texts of these were written, and the lines behind them ran without being counted. In crates/converter the last block of their texts
+    // could not be written, and no text is left.
     fn print(&mut self, writer: &mut impl Write, piece: &[u8]) -> Result<usize, usize>
         ensures taken { MatchResult result (λ read. read ≤ length piece.now) (λ read. read ≤ length piece.now) };
 }

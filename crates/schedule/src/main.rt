@@ -6,17 +6,19 @@
 ghost use Rattle.std.specs.Prelude.{◌≡◌, ◌≤◌, true, length, MatchResult};
 ghost use Rattle.rules.specs.Sound.{sound};
 ghost use Rattle.text.specs.Texts.{most_text};
+ghost use Rattle.input.specs.Kept.{buffer_size};
 ghost use Rattle.schedule.specs.Pieces.{Leaves};
 
 use input::Lines;
 use rules::Schedule;
 use std::io::Write;
 
-// Room for texts.
+// Room for texts: as many bytes as a piece of the input has at most.
 const BUFFER: usize = 65536;
 
 // Runs over all lines that end in a piece, and writes their texts. How many bytes these lines were: the bytes behind them go on, with the schedule, where the texts
-// of these lines stop. In an error so many bytes were taken, but the texts of their last lines could not be written.
+// of these lines stop. In an error so many bytes were taken, and the texts of these were written. The lines of one more run are not counted, although the schedule is
+// the one behind them: their texts could not be written.
 fn print_lines(
     writer: &mut impl Write,
     s: &mut Schedule,
@@ -45,12 +47,13 @@ fn print_lines(
     }
 }
 
-// A schedule that is sound, and room for texts.
+// A schedule that is sound, and room for texts, as much as for a piece of the input.
 #[derive(Drop)]
 struct Scheduler {
     schedule: Schedule,
     out: [u8; BUFFER],
     ghost kept_rules: { sound schedule ≡ true },
+    ghost room: { length out ≡ buffer_size },
 }
 
 impl Lines for Scheduler {

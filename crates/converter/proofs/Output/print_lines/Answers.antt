@@ -10,7 +10,7 @@ use Rattle.converter.proofs.Output.print_lines.Goals as goal
 pub loop-to-init : goal.loop-to-init
 loop-to-init g c =
     let o = c.self.inside in
-    (c.self.invariant, rw c.self.view_is at (sent_none c.args.to c.args.piece.now o.end o.buffer))
+    (c.self.invariant.0, rw c.self.view_is at (sent_none c.args.to c.args.piece.now o.end o.buffer))
 
 pub returns-then-some-lt-BLOCK : goal.returns-then-some-lt-BLOCK
 returns-then-some-lt-BLOCK g c =
