@@ -102,9 +102,8 @@ impl Input {
 
 // What a program does with the lines of its input.
 pub trait Lines {
-    // Takes all lines that end in a piece, and writes what is to be written for them. How many bytes these lines were. In an error a write failed, and so many bytes were
-    // taken. In crates/schedule the texts of these were written, and the lines behind them ran without being counted. In crates/converter the last block of their texts
-    // could not be written, and no text is left.
+    // Takes all lines that end in a piece, and writes what is to be written for them. How many bytes these lines were. In an error so many were taken, and a write
+    // failed: what was to be written for the last of them may be lost.
     fn print(&mut self, writer: &mut impl Write, piece: &[u8]) -> Result<usize, usize>
         ensures taken { MatchResult result (λ read. read ≤ length piece.now) (λ read. read ≤ length piece.now) };
 }
