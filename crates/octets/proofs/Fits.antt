@@ -16,7 +16,7 @@ use Rattle.rules.specs.Records.{id_size, id_from, no_event}
 use Rattle.rules.specs.Bytes.{big, read, id_at, event_size, event_at, event_bytes}
 use Rattle.rules.proofs.Numbers.{Bytes, read_below}
 use Rattle.rules.proofs.Over.{over_size}
-use Rattle.octets.specs.Octets.{get_at, put_at, get_id, get_event, put_event, copied}
+use Rattle.octets.specs.Octets.{number_at, get_at, put_at, get_id, get_event, put_event, copied}
 
 -- what the test for room says
 module _ (n at : ℕ) (l : List ℕ) {b : Bool} (e : b ≡ leb (at + n) (length l)) where
@@ -27,6 +27,22 @@ module _ (n at : ℕ) (l : List ℕ) {b : Bool} (e : b ≡ leb (at + n) (length 
   no_room f = leb-false (at + n) (length l) (sym e ∙ f)
 
 module _ (n at : ℕ) (l : List ℕ) where
+  pub number_inside : at + n ≤ length l → number_at n at l ≡ read n at l
+  unfolding number_at
+  number_inside h = rw (le-leb (at + n) (length l) h)
+
+  pub numbered_inside : {x : ℕ} → x ≡ number_at n at l → at + n ≤ length l → x ≡ read n at l
+  numbered_inside e h = e ∙ number_inside h
+
+  pub number_outside : length l < at + n → number_at n at l ≡ 0
+  unfolding number_at
+  number_outside h = rw (lt-leb (at + n) (length l) h)
+
+  -- of at most 8 bytes it is what `get` reads
+  pub number_got : {x : ℕ} → x ≡ number_at n at l → n ≤ 8 → x ≡ get_at n at l
+  unfolding number_at get_at
+  number_got e g = e ∙ rw (le-leb n 8 g)
+
   pub get_inside : n ≤ 8 → at + n ≤ length l → get_at n at l ≡ read n at l
   unfolding get_at
   get_inside g h = rw (le-leb n 8 g, le-leb (at + n) (length l) h)

@@ -6,6 +6,10 @@ use Rattle.rules.specs.Lists.{over_at}
 use Rattle.rules.specs.Records.{id_size, id_from, no_event}
 use Rattle.rules.specs.Bytes.{big, read, id_at, event_size, event_at, event_bytes}
 
+-- the number, 0 if its bytes are not all there
+unfoldable pub number_at : ℕ → ℕ → List ℕ → ℕ
+number_at n at l = cond (leb (at + n) (length l)) (read n at l) 0
+
 -- the number, 0 if its bytes are more than 8 or not all there
 unfoldable pub get_at : ℕ → ℕ → List ℕ → ℕ
 get_at n at l = cond (leb n 8 && leb (at + n) (length l)) (read n at l) 0

@@ -7,8 +7,10 @@ ghost use Rattle.rules.specs.Records.{id_size, id_number};
 ghost use Rattle.octets.specs.Octets.{get_at, put_at, get_id, get_event, put_event, copied};
 
 mod numbers;
+#[cfg(test)]
+mod tests;
 
-pub use numbers::Number;
+pub use numbers::{Number, Word};
 use rules::{Event, Id};
 
 // Where the fields of an event stand behind its id.

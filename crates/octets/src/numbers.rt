@@ -1,6 +1,7 @@
 // Numbers of a fixed width.
-ghost use Rattle.std.specs.Prelude.{◌≡◌, ℕ};
-ghost use Rattle.octets.specs.Octets.{get_at, put_at};
+ghost use Rattle.std.specs.Prelude.{◌≡◌, ◌≤◌, ℕ};
+ghost use Rattle.std.proofs.Common.{rules};
+ghost use Rattle.octets.specs.Octets.{number_at, get_at, put_at};
 
 use crate::has_room;
 
@@ -14,7 +15,7 @@ pub trait Number {
     ghost value: { Self → ℕ };
 
     fn read_at(b: &[u8], at: usize) -> Self
-        ensures { value result ≡ get_at width at b.now };
+        ensures { value result ≡ number_at width at b.now };
 
     fn write_at(self, b: &mut [u8], at: usize)
         ensures { b.new ≡ put_at width at (value self) b.old };
@@ -107,4 +108,31 @@ impl Number for u64 {
         }
         b[at..at + 8].copy_from_slice(&self.to_be_bytes());
     }
+}
+
+// A number of at most 8 bytes, which is read as `get` reads one.
+pub trait Word: Number + Sized {
+    final fn get_at(b: &[u8], at: usize) -> Self
+        ensures { Self.value result ≡ get_at Self.width at b.now }
+    {
+        Self::read_at(b, at)
+    }
+
+    ghost short: { Self.width ≤ 8 };
+}
+
+impl Word for u8 {
+    ghost short = { Prim.search rules };
+}
+
+impl Word for u16 {
+    ghost short = { Prim.search rules };
+}
+
+impl Word for u32 {
+    ghost short = { Prim.search rules };
+}
+
+impl Word for u64 {
+    ghost short = { Prim.search rules };
 }

@@ -1,7 +1,7 @@
 -- The event, which is all there, and then field by field.
 use native.Mathlib.Omega.{arith}
 use Rattle.rules.specs.Bytes.{entry_at}
-use Rattle.octets.proofs.Fits.{got_inside, event_inside}
+use Rattle.octets.proofs.Fits.{numbered_inside, event_inside}
 use Rattle.image.proofs.reading.entry_at.Goals as goal
 
 pub returns : goal.returns
@@ -11,9 +11,9 @@ returns c =
     rw (
       c.get_event.ensures,
       event_inside a.at a.b.now (omega arith),
-      got_inside _ _ _ c.read_at.ensures (omega arith) (omega arith),
-      got_inside _ _ _ c.read_at-2.ensures (omega arith) (omega arith),
-      got_inside _ _ _ c.read_at-3.ensures (omega arith) (omega arith),
+      numbered_inside _ _ _ c.read_at.ensures (omega arith),
+      numbered_inside _ _ _ c.read_at-2.ensures (omega arith),
+      numbered_inside _ _ _ c.read_at-3.ensures (omega arith),
       c.choice_of.ensures,
-      got_inside _ _ _ c.read_at-4.ensures (omega arith) (omega arith),
+      numbered_inside _ _ _ c.read_at-4.ensures (omega arith),
     )

@@ -3,7 +3,7 @@ use mathlib.Core.Path.{◌≡◌, sym}
 use Prim.Native.Nat.{◌+◌}
 use native.Mathlib.Omega.{arith}
 use Rattle.rules.specs.Bytes.{read}
-use Rattle.octets.proofs.Fits.{room, no_room, get_inside, get_outside}
+use Rattle.octets.proofs.Fits.{room, no_room, number_inside, number_outside}
 use Rattle.octets.proofs.numbers.U16Number.read_at.Goals as goal
 
 pub returns-then-has_room : goal.returns-then-has_room
@@ -12,7 +12,7 @@ returns-then-has_room c =
     let a = c.args in
     let l = a.b.now in
     let first : a.at + 0 ≡ a.at = omega arith in
-    rw (get_inside 2 a.at l (omega arith) (room 2 a.at l c.has_room.ensures c.if-has_room.true), first) (omega (arith, c.from_be_bytes.ensures))
+    rw (number_inside 2 a.at l (room 2 a.at l c.has_room.ensures c.if-has_room.true), first) (omega (arith, c.from_be_bytes.ensures))
 
 pub returns-else-has_room : goal.returns-else-has_room
-returns-else-has_room c = let a = c.args in sym (get_outside 2 a.at a.b.now (no_room 2 a.at a.b.now c.has_room.ensures c.if-has_room.false))
+returns-else-has_room c = let a = c.args in sym (number_outside 2 a.at a.b.now (no_room 2 a.at a.b.now c.has_room.ensures c.if-has_room.false))
