@@ -1,4 +1,4 @@
-// Numbers read and written at the last place where there is room for them, and at the next.
+// Numbers read and written at the last place where there is room for them, and at the next, where there is none.
 ghost use Rattle.rules.specs.Records.{id_size, id_number};
 
 use crate::{Number, Word, get_id, put_id};
@@ -55,14 +55,22 @@ fn numbers_read(rt: HostRuntime) {
 #[test]
 fn numbers_written(rt: HostRuntime) {
     let mut b = [0; 18];
-    0x1112_u16.write_at(&mut b, 17);
+    1_u8.write_at(&mut b, 18);
+    1_u16.write_at(&mut b, 17);
+    1_u32.write_at(&mut b, 15);
+    1_u64.write_at(&mut b, 11);
     Id::of(1, 1).write_at(&mut b, 3);
-    assert_eq!(rt; b, [0; 18]);
-    Id::of(0x0304_0506_0708_090a, 0).write_at(&mut b, 2);
-    0x0b0c_0d0e_0000_0000_u64.write_at(&mut b, 10);
-    0x0f10_0000_u32.write_at(&mut b, 14);
-    0x1112_u16.write_at(&mut b, 16);
-    2_u8.write_at(&mut b, 1);
+    assert_eq!(rt; b, [0; 18], "no room");
     1_u8.write_at(&mut b, 0);
+    2_u8.write_at(&mut b, 1);
+    Id::of(0x0304_0506_0708_090a, 0x0b0c_0d0e_0f10_1112).write_at(&mut b, 2);
     assert_eq!(rt; b, BYTES);
+    0x2122_2324_2526_2728_u64.write_at(&mut b, 10);
+    0x3132_3334_u32.write_at(&mut b, 14);
+    0x4142_u16.write_at(&mut b, 16);
+    0x51_u8.write_at(&mut b, 17);
+    let last = [
+        1, 2, 3, 4, 5, 6, 7, 8, 9, 10, 0x21, 0x22, 0x23, 0x24, 0x31, 0x32, 0x41, 0x51,
+    ];
+    assert_eq!(rt; b, last);
 }
